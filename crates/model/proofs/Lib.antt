@@ -1,0 +1,12 @@
+pub mod Lists
+pub mod Trees
+pub mod Steps
+pub mod Place
+pub mod Paths
+pub mod Whole
+pub mod Next
+pub mod Theorems
+pub mod Worked
+pub mod Rulebooks
+pub mod Faults
+pub mod Tests

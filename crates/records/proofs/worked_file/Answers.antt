@@ -1,0 +1,5 @@
+use mathlib.Core.Path.{refl}
+use Rattle.records.proofs.worked_file.Needs as need
+
+pub returns : need.returns
+returns c = refl

@@ -100,6 +100,7 @@ pub fn first_unlawful<R: Rulebook>(
             top += 1;
         } else {
             let child = record_at(bytes, view.start + 8 * at);
+            let under = class_under(rules, level.class, child.name);
             levels[top] = Level {
                 class: level.class,
                 node: level.node,
@@ -110,7 +111,7 @@ pub fn first_unlawful<R: Rulebook>(
             used += 1;
             top -= 1;
             levels[top] = Level {
-                class: class_under(rules, level.class, child.name),
+                class: under,
                 node: at,
                 first: used,
                 left: child.children,

@@ -58,6 +58,9 @@ pub struct Open {
     pub low: u64,
 }
 
+// How many bytes a trailer has.
+const TRAILER: usize = 8;
+
 const MOST_NODES: usize = 4096;
 
 const MOST_DEEP: usize = 32;
@@ -213,10 +216,10 @@ fn locate(bytes: &[u8], wanted: Wanted) -> Result<View, Refusal>
     ensures { λ r. ⌜ r ≡ viewed (now (bytes .entry)) (says (now (bytes .entry)) wanted) ⌝ }
 {
     let len = bytes.len();
-    if len < 8 {
+    if len < TRAILER {
         return Err(wanted.refuse(Reason::Short, len));
     }
-    let end = len - 8;
+    let end = len - TRAILER;
     if !is_sealed(bytes, wanted.kind) {
         return Err(wanted.refuse(Reason::Trailer, end));
     }

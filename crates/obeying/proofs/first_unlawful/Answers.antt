@@ -71,7 +71,7 @@ loop-top-again g c =
       omega (arith, i .3),
       omega (arith, x .more),
       λ t s u.
-          opened (view (i .5 t s u) (omega (arith, i .0))) (c .if-level-eq0 .left) .next _ _ (c .record-at-child .ensures) (c .class-under .ensures)
+          opened (view (i .5 t s u) (omega (arith, i .0))) (c .if-level-eq0 .left) .next _ _ (c .record-at-child .ensures) (c .class-under-under .ensures)
           (omega (arith, i .1, i .3, i .4, s .few, s .count))
           (omega (arith, i .0)),
     )

@@ -3,7 +3,7 @@ ghost use mathlib.Core.Path.{_≡_};
 ghost use Prim.Native.Nat.{ℕ, _<_};
 ghost use Rattle.std.specs.declared.option.Option.the-variants.{Some};
 ghost use Rattle.model.specs.Trees.{Tree, marks};
-ghost use Rattle.model.specs.Meaning.{class-under as classUnder, allowed as isAllowed};
+ghost use Rattle.model.specs.Meaning.{class-under as classUnder, class-at as classAt, allowed as isAllowed};
 ghost use Rattle.model.specs.Faults.{first-fault};
 ghost use Rattle.records.specs.Files.{Shows};
 ghost use Rattle.records.specs.Reading.{says, then, viewed, view-of};
@@ -40,6 +40,17 @@ pub fn class_under<R: Rulebook>(rules: &R, class: Option<u32>, name: u32) -> Opt
         Some(class) => rules.class_under(class, name),
         None => None,
     }
+}
+
+// The class at the end of a path from the root, which is of class 0.
+pub fn class_at<R: Rulebook>(rules: &R, path: &[u32]) -> Option<u32>
+    ensures { λ r. ⌜ r ≡ classAt (meaning (now (rules .entry))) (Some 0) (now (path .entry)) ⌝ }
+{
+    let mut class = Some(0);
+    for name in path {
+        class = class_under(rules, class, *name);
+    }
+    class
 }
 
 // Whether names are allowed; where there is no class, none are.

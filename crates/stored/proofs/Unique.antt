@@ -1,12 +1,19 @@
 -- Words tell the tree: what stands at a place is one tree, under one name.
-use Prim.Native.Nat.{ℕ, _+_}
-use mathlib.Core.List.{List}
+use Prim.Native.Nat.{ℕ, _+_, _*_}
+use mathlib.Core.Bool.{Bool, true, false}
+use mathlib.Core.List.{List, [], _∷_, _++_, append-assoc}
 use mathlib.Core.Path.{_≡_, refl, sym, ap, _∙_}
 use native.Mathlib.Omega.{arith}
 use lib.Dec.{T}
-use Rattle.model.specs.Trees.{Tree, missing, mark, node, Forest, empty, child, present, Well-formed, Well-formed-all, nodes, nodesAll}
-use Rattle.stored.specs.Words.{emit, emits, Stored, Stands}
-use Rattle.stored.proofs.Places.{nodes-some}
+use lib.ListN.{length, take, drop, length-drop}
+use lib.Seq.{drop-drop}
+use Rattle.std.specs.Orderings.{Decides}
+use Rattle.std.proofs.shelf.Lists.{take-at, drop-append-le}
+use Rattle.std.proofs.shelf.Tests.{both-ways}
+use Rattle.model.specs.Trees.{Tree, missing, mark, node, Forest, empty, child, present, Well-formed, Well-formed-all, nodes, nodesAll, same}
+use Rattle.model.proofs.Trees.{one-same, not-same}
+use Rattle.stored.specs.Words.{tree-word, emit, emits, Stored, Stands}
+use Rattle.stored.proofs.Places.{nodes-some, length-emit}
 
 pub record Same (t u : Tree) (m k : ℕ) (x y : List ℕ) : Type 0 where
   pub trees : t ≡ u
@@ -50,3 +57,52 @@ pub unique : {ws : List ℕ} {at : ℕ} {s t : Stored} → Stands ws at s → St
 unique {s = s} {t = t} h k =
     same-tree (s .tree) (t .tree) (s .name) (t .name) (s .rest) (t .rest) (s .is-present) (t .is-present) (s .well-formed) (t .well-formed)
     (sym (h .words) ∙ k .words)
+
+-- The words of a tree or a forest, and then the others.
+mutual
+  pub emit-rest : (t : Tree) (n : ℕ) (rest : List ℕ) → emit t n rest ≡ emit t n [] ++ rest
+  emit-rest missing n rest = refl
+  emit-rest mark n rest = refl
+  emit-rest (node f) n rest = ap (λ l. n ∷ (1 + nodesAll f) ∷ tree-word ∷ l) (emits-rest f rest)
+
+  pub emits-rest : (f : Forest) (rest : List ℕ) → emits f rest ≡ emits f [] ++ rest
+  emits-rest empty rest = refl
+  emits-rest (child n t f) rest =
+      emit-rest t n (emits f rest)
+      ∙ ap (λ l. emit t n [] ++ l) (emits-rest f rest)
+      ∙ sym (append-assoc (emit t n []) (emits f []) rest)
+      ∙ ap (λ l. l ++ rest) (sym (emit-rest t n (emits f [])))
+
+-- The words of a tree without its name.
+abbrev pub body : Stored → List ℕ
+body s = drop 1 (emit (s .tree) (s .name) [])
+
+pub own-body : {ws : List ℕ} {at : ℕ} {s : Stored} (k : ℕ) → Stands ws at s → k + 1 ≡ 3 * nodes (s .tree) → take k (drop (3 * at + 1) ws) ≡ body s
+own-body {ws} {at} {s} k h e =
+    let own = emit (s .tree) (s .name) [] in
+    let long : length own ≡ 3 * nodes (s .tree) = omega (arith, length-emit (s .tree) (s .name) []) in
+    ap (take k) (sym (drop-drop 1 (3 * at) ws)
+    ∙ ap (drop 1) (h .words ∙ emit-rest (s .tree) (s .name) (s .rest))
+    ∙ drop-append-le 1 own (s .rest) (omega arith))
+    ∙ take-at (drop 1 own) (s .rest) k (length-drop 1 own ∙ omega arith)
+
+under-zero : (s : Stored) → emit (s .tree) 0 [] ≡ 0 ∷ body s
+under-zero s = go (s .tree) (s .is-present)
+  where
+    go : (t : Tree) → T (present t) → emit t 0 [] ≡ 0 ∷ drop 1 (emit t (s .name) [])
+    go missing p = absurd p
+    go mark p = refl
+    go (node f) p = refl
+
+-- They tell whether two trees are the same.
+pub body-tells : (s t : Stored) → body s ≡ body t → s .tree ≡ t .tree
+body-tells s t e =
+    same-tree (s .tree) (t .tree) 0 0 [] [] (s .is-present) (t .is-present) (s .well-formed) (t .well-formed)
+    (under-zero s ∙ ap (λ l. 0 ∷ l) e ∙ sym (under-zero t)) .trees
+
+pub tree-tells : (s t : Stored) → s .tree ≡ t .tree → body s ≡ body t
+tree-tells s t e = ap (drop 1) (sym (under-zero s) ∙ ap (λ u. emit u 0 []) e ∙ under-zero t)
+
+pub decided : (s t : Tree) (r : Bool) → Decides r (s ≡ t) → r ≡ same s t
+decided s t true d = sym (one-same s t (d .0 refl))
+decided s t false d = sym (not-same s t (λ e. both-ways false refl (d .1 e)))

@@ -1,3 +1,3 @@
-pub mod Nodes
+pub mod Told
 pub mod Storing
 pub mod Writing

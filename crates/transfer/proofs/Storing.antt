@@ -16,7 +16,9 @@ use Rattle.stored.proofs.Places.{kind, emit-view, nodes-below, nodes-some, soun
 use Rattle.stored.proofs.Rows.{Along, Ahead}
 use Rattle.stored.proofs.Rows as rows
 use Rattle.transfer.specs.Moves.{Siblings, record-of}
-use Rattle.transfer.proofs.Nodes.{join, from, alone, emits-join, sound-open, nodes-open, first-record, record-from, kind-is, Nth, nth, none-left, sound-alone, nodes-alone, emit-alone, tell-alone}
+use Rattle.stored.proofs.Forests.{join, emits-join}
+use Rattle.stored.proofs.Nodes.{from, alone, sound-open, nodes-open, Nth, nth, none-left, sound-alone, nodes-alone, emit-alone}
+use Rattle.transfer.proofs.Told.{first-record, record-from, kind-is, tell-alone}
 
 -- Three words, the last one written first.
 pub three-set : (ws : List ℕ) (at a b c : ℕ) → 3 * at + 3 ≤ length ws

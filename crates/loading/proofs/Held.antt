@@ -22,7 +22,7 @@ use Rattle.area.specs.declared.regions.Region.the-variants.{Tree as Old}
 use Rattle.area.specs.declared.regions.Table.the-variants.{Archive, Field, Bench}
 use Rattle.loading.specs.declared.Views.{Views}
 use Rattle.loading.specs.Loads.{an-archive, archive-loaded, copy-loaded, loaded, views-of, Loaded}
-use Rattle.loading.proofs.Reading.{small, lawful-copy}
+use Rattle.loading.proofs.Reading.{small, lawful-copy, copy-obeys}
 use Rattle.loading.proofs.Three.{parts}
 
 -- Three files that were accepted, and their trees.
@@ -98,3 +98,18 @@ as-told {area} {v} {w} {s} {t} h p q e =
     let i : v ≡ w = cc in
     let j : s ≡ t = cc in
     subst (λ y. Loaded area y t) i (subst (Loaded area v) j h)
+
+-- Both copies of a load obey.
+pub loaded-obeys : (m : Meaning) (l : ℕ) (o a b : List ℕ) (t : Outcome) → loaded m l o a b ≡ Ok t → Obeys m (Some 0) (t .field) × Obeys m (Some 0) (t .bench)
+loaded-obeys m l o a b t h = go (archive-loaded l o) (copy-loaded m l whose.Field a) (copy-loaded m l whose.Bench b) refl refl h
+  where
+    go : (x y z : Result Tree Refusal) → y ≡ copy-loaded m l whose.Field a → z ≡ copy-loaded m l whose.Bench b → then x (λ o. then y (λ a. then z (λ b. Ok (outcome o a b)))) ≡ Ok t
+        → Obeys m (Some 0) (t .field) × Obeys m (Some 0) (t .bench)
+    go (Err d) y z p q h = let n : _≡_ {A = ℕ} 0 1 = cc in absurd (omega arith)
+    go (Ok s) (Err d) z p q h = let n : _≡_ {A = ℕ} 0 1 = cc in absurd (omega arith)
+    go (Ok s) (Ok u) (Err d) p q h = let n : _≡_ {A = ℕ} 0 1 = cc in absurd (omega arith)
+    go (Ok s) (Ok u) (Ok w) p q h =
+        let i : outcome s u w ≡ t = cc in (
+          subst (λ (r : Outcome). Obeys m (Some 0) (r .field)) i (copy-obeys m l whose.Field a u (sym p)),
+          subst (λ (r : Outcome). Obeys m (Some 0) (r .bench)) i (copy-obeys m l whose.Bench b w (sym q)),
+        )

@@ -118,3 +118,13 @@ lawful-copy m l w bs v s h =
 pub held-to : (m : Meaning) (l : ℕ) (w : Whose) (bs : List ℕ) {v : View} (f : Small bs (copy-of w 0) l v) (o : Option ℕ) → o ≡ first-fault m (Some 0) (f .tree)
     → viewed bs (faulty w (f .tree) o) ≡ viewed bs (copy-loaded m l w bs)
 held-to m l w bs f o q = ap (λ x. viewed bs (faulty w (f .tree) x)) q ∙ ap (λ x. viewed bs (then x (lawful m (Some 0) w))) (sym (f .is))
+
+-- A copy that loads obeys.
+pub copy-obeys : (m : Meaning) (l : ℕ) (w : Whose) (bs : List ℕ) (t : Tree) → copy-loaded m l w bs ≡ Ok t → Obeys m (Some 0) t
+copy-obeys m l w bs t h = go (then (says bs (copy-of w 0)) (within l w)) h
+  where
+    go : (x : Result Tree Refusal) → then x (lawful m (Some 0) w) ≡ Ok t → Obeys m (Some 0) t
+    go (Err d) h = let z : _≡_ {A = ℕ} 0 1 = cc in absurd (omega arith)
+    go (Ok u) h =
+        let e = lawful-same m (Some 0) w u t h in
+        lawful-obeys m (Some 0) w t (ap (lawful m (Some 0) w) e ∙ h)

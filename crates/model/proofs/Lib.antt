@@ -10,3 +10,4 @@ pub mod Worked
 pub mod Rulebooks
 pub mod Faults
 pub mod Tests
+pub mod Edits

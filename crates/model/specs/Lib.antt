@@ -1,6 +1,7 @@
 pub mod Trees
 pub mod Meaning
 pub mod Faults
+pub mod Edits
 pub mod Rulebooks
 pub mod Round
 pub mod Safety

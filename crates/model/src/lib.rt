@@ -1,5 +1,6 @@
 // The definitions of the round stand in specs/. Each function here states one theorem about them, by its contract.
 ghost use Rattle.model.specs.Theorems.{Equal-trees-are-one, Next-names-as-told, Steps-as-told, Marked-exactly-at-conflicts, Outcome-is-safe, No-rival-does-more, Outcome-is-well-formed};
+ghost use Rattle.model.specs.Edits.{Edits-keep-the-form, Edits-are-found, Edits-leave-the-rest, Edits-are-counted, Edits-bring-no-marks, Edits-stay-shallow};
 ghost use Rattle.model.specs.Faults.{No-fault-is-obeying};
 ghost use Rattle.model.specs.Worked.{Worked-rounds-come-out, Worked-rounds-are-ready};
 
@@ -9,6 +10,30 @@ pub fn equal_trees_are_one()
 
 pub fn no_fault_is_obeying()
     ensures { λ _. ⌜ No-fault-is-obeying ⌝ }
+{}
+
+pub fn edits_keep_the_form()
+    ensures { λ _. ⌜ Edits-keep-the-form ⌝ }
+{}
+
+pub fn edits_are_found()
+    ensures { λ _. ⌜ Edits-are-found ⌝ }
+{}
+
+pub fn edits_leave_the_rest()
+    ensures { λ _. ⌜ Edits-leave-the-rest ⌝ }
+{}
+
+pub fn edits_are_counted()
+    ensures { λ _. ⌜ Edits-are-counted ⌝ }
+{}
+
+pub fn edits_bring_no_marks()
+    ensures { λ _. ⌜ Edits-bring-no-marks ⌝ }
+{}
+
+pub fn edits_stay_shallow()
+    ensures { λ _. ⌜ Edits-stay-shallow ⌝ }
 {}
 
 pub fn next_names_as_told()

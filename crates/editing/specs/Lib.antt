@@ -1,0 +1,5 @@
+pub mod Regions
+pub mod Splitting
+pub mod Opening
+pub mod Paths
+pub mod Splicing

@@ -1,0 +1,12 @@
+pub mod Finding
+pub mod Fronts
+pub mod Machine
+pub mod Writing
+pub mod Regions
+pub mod Stacking
+pub mod Gathering
+pub mod Leads
+pub mod Sealing
+pub mod Outs
+pub mod Turns
+pub mod Roots

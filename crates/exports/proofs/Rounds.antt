@@ -1,8 +1,8 @@
 -- Rounds that leave the trees of the area as they are.
-use Prim.Native.Nat.{ℕ, _+_, _<_, _≤_}
+use Prim.Native.Nat.{ℕ, _+_, _≤_}
 use native.Mathlib.Omega.{arith}
-use mathlib.Core.Path.{_≡_, refl, sym, ap, subst, _∙_}
-use mathlib.Core.List.{List, [], _∷_}
+use mathlib.Core.Path.{_≡_, refl, ap}
+use mathlib.Core.List.{List}
 use Rattle.std.specs.declared.option.Option.the-variants.{Some}
 use Rattle.std.specs.declared.result.Result.{Result}
 use Rattle.std.specs.declared.result.Result.the-variants.{Ok}
@@ -10,33 +10,18 @@ use Rattle.refusals.specs.declared.Refusal.{Refusal}
 use Rattle.records.specs.Files.{Bytes}
 use Rattle.model.specs.Rulebooks.{open-meaning}
 use Rattle.model.proofs.Theorems.{outcome-is-well-formed}
-use Rattle.model.specs.Trees.{Tree, nodes}
+use Rattle.model.specs.Trees.{nodes}
 use Rattle.model.specs.Meaning.{Meaning}
 use Rattle.model.specs.Round.{Outcome, outcome, round}
 use Rattle.model.specs.Safety.{Ready}
-use Rattle.stored.specs.Words.{Holds}
-use Rattle.area.specs.Views.{view, limit, Only}
 use Rattle.area.specs.declared.types.Area.{Area}
-use Rattle.area.specs.declared.regions.Region.the-variants.{Tree as Old, New, Stack, Names}
-use Rattle.area.specs.declared.regions.Table.the-variants.{Archive, Field, Bench}
+use Rattle.area.specs.declared.regions.Table.the-variants.{Archive}
 use Rattle.merging.specs.declared.types.Sizes.{Sizes}
 use Rattle.merging.specs.Held.{Held, Merged}
 use Rattle.loading.specs.declared.Views.{Views}
 use Rattle.loading.specs.Loads.{loaded, views-of, Loaded}
 use Rattle.loading.proofs.Held.{accepted, loaded-obeys}
 use Rattle.exports.specs.Answers.{Rounded, some}
-
-pub held-on : {a b : Area} {s : Sizes} {o x y : Tree} → Held a s o x y → Only (New Archive ∷ New Field ∷ New Bench ∷ Stack ∷ Names ∷ []) a b → Held b s o x y
-held-on {a} {b} {s} {o} {x} {y} h p =
-    let n = p .same-limit in
-    record {
-      archive = subst (λ ws. Holds ws (s .archive) o) (sym (p .same (Old Archive) refl)) (h .archive);
-      field = subst (λ ws. Holds ws (s .field) x) (sym (p .same (Old Field) refl)) (h .field);
-      bench = subst (λ ws. Holds ws (s .bench) y) (sym (p .same (Old Bench) refl)) (h .bench);
-      archive-few = omega (arith, h .archive-few);
-      field-few = omega (arith, h .field-few);
-      bench-few = omega (arith, h .bench-few);
-    }
 
 -- What was loaded is ready for a round.
 abbrev pub sizes-of : Views → Sizes

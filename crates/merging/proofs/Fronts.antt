@@ -41,20 +41,18 @@ above k empty b = refl
 above k (child n t f) b = stopped (k + 1) n t f (omega (arith, b .0))
 
 pub record Front (k : ℕ) (f : Forest) (leads : Bool) : Type 0 where
-  pub tells : starts k f ≡ leads
   pub higher : Below k (names (from-on (k + 1) f))
   pub first : leads ≡ true → names f ≡ k ∷ names (from-on (k + 1) f)
   pub later : leads ≡ false → names f ≡ names (from-on (k + 1) f)
 
 front : (k : ℕ) (f : Forest) → Floor k f → Ascends (names f) → Front k f (starts k f)
-front k empty l a = record { tells = refl; higher = tt; first = λ e. not-both e refl; later = λ e. refl }
+front k empty l a = record { higher = tt; first = λ e. not-both e refl; later = λ e. refl }
 front k (child n t f) l a =
     elim (cases-eq n k) [
       | inl e ↦
           let b : Below k (names f) = subst (λ i. Below i (names f)) e (a .0) in
           let q : from-on (k + 1) (child n t f) ≡ f = passed (k + 1) n t f (omega arith) ∙ above k f b in
           record {
-            tells = refl;
             higher = subst (λ g. Below k (names g)) (sym q) b;
             first = λ i. ap (λ j. j ∷ names f) e ∙ ap (λ g. k ∷ names g) (sym q);
             later = λ i. not-both (eq-eqb n k e) i;
@@ -64,7 +62,6 @@ front k (child n t f) l a =
           let b : Below k (n ∷ names f) = (m, below-trans k n (names f) m (a .0)) in
           let q = above k (child n t f) b in
           record {
-            tells = refl;
             higher = subst (λ g. Below k (names g)) (sym q) b;
             first = λ i. not-both i (ne-eqb n k e);
             later = λ i. ap names (sym q);

@@ -9,4 +9,6 @@ pub mod Leads
 pub mod Sealing
 pub mod Outs
 pub mod Turns
+pub mod Calls
 pub mod Roots
+pub mod Laws

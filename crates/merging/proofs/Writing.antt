@@ -27,6 +27,13 @@ pasted d ws at n l h =
     let e : 3 * (at + n) ≡ 3 * at + 3 * n = omega arith in
     ap (λ i. take i (paste d (3 * at) ws (3 * n))) e ∙ take-paste d (3 * at) ws (3 * n) (omega arith) h
 
+-- One node, of three words.
+pub node-pasted : (d e : List ℕ) (at x y z : ℕ) → e ≡ paste d (3 * at) (x ∷ y ∷ z ∷ []) 3 → 3 * at ≤ length d
+    → take (3 * (at + 1)) e ≡ take (3 * at) d ++ x ∷ y ∷ z ∷ []
+node-pasted d e at x y z p l =
+    let q : 3 * (at + 1) ≡ 3 * at + 3 = omega arith in
+    ap (λ i. take i e) q ∙ ap (take (3 * at + 3)) p ∙ take-paste d (3 * at) (x ∷ y ∷ z ∷ []) 3 l (omega arith)
+
 -- The words of a stored tree alone.
 pub own-words : {ws : List ℕ} {at : ℕ} {s : Stored} → Stands ws at s → take (3 * nodes (s .tree)) (drop (3 * at) ws) ≡ emit (s .tree) (s .name) []
 own-words {s = s} h =

@@ -25,19 +25,22 @@ use Rattle.merging.specs.Frames.{frame-words}
 use Rattle.merging.specs.Outputs.{Opened, Listed}
 use Rattle.merging.specs.Levels.{Level, framed, answer}
 
+-- The frames of all levels, the top first.
 abbrev pub piled : List Level → List ℕ
 piled [] = []
 piled (lv ∷ ls) = frame-words (lv .frame) ++ piled ls
 
--- The words of all open nodes.
+-- The nodes that are open in a new region, each with the children that are done.
 abbrev pub lines : Table → List Level → List ℕ
 lines t [] = []
 lines t (lv ∷ ls) = lines t ls ++ (lv .name ∷ 0 ∷ 0 ∷ emits (lv .done t) [])
 
+-- Each stands where its frame says.
 abbrev pub Places : Table → List Level → Type 0
 Places t [] = Unit {0}
 Places t (lv ∷ ls) = (length (lines t ls) ≡ 3 * pick t (lv .frame .new)) × Places t ls
 
+-- The first `to` nodes of a new region.
 pub record Out (t : Table) (out : List ℕ) (to : ℕ) (levels : List Level) : Type 0 where
   pub words : take (3 * to) out ≡ lines t levels
   pub places : Places t levels
@@ -67,7 +70,8 @@ abbrev pub Bottom : Level → List Level → Type 0
 Bottom lv [] = lv .name ≡ 0
 Bottom lv (up ∷ ls) = Bottom up ls
 
--- A level is open. No more is written than was passed in both copies, and no more frames are on the stack than nodes of the field copy were passed.
+-- A level is open. No more nodes are written than were passed in both copies, and no more frames are on the stack than nodes were passed in the
+-- field copy, so that there is room for all of them.
 pub record Going (m : Meaning) (target : Outcome) (area : Area) (w : Walk) (lv : Level) (ls : List Level) : Type 0 where
   pub pile : drop (w .top) (view area Stack) ≡ piled (lv ∷ ls)
   pub rests : RestsAll m (sources area) (lv ∷ ls) (w .at)
@@ -77,6 +81,7 @@ pub record Going (m : Meaning) (target : Outcome) (area : Area) (w : Walk) (lv :
   pub bottom : Bottom lv ls
   pub answers : answer m lv ls ≡ target
 
+-- There are such levels.
 abbrev pub Busy : Meaning → Outcome → Area → Walk → Type 0
 Busy m target area w = (lv : Level) × (ls : List Level) × Going m target area w lv ls
 
@@ -109,6 +114,7 @@ pub record Closing (area : Area) (f : Frame) (new : Sizes) (lv : Level) : Type 0
 abbrev pub own : Tree → ℕ
 own t = cond (present t) 1 0
 
+-- The frame of a place whose children are to be merged.
 abbrev pub frame-for : Option ℕ → Here → (Table → Tree) → Sizes → Frame
 frame-for c h ts new =
     record { class = c; ends = each (λ t. spot t h .at + nodes (ts t)); field = h .field .at; bench = h .bench .at; new = new }

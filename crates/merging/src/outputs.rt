@@ -114,6 +114,7 @@ pub fn seal(area: &mut Area, t: Table, at: usize, to: usize)
     area.set(Region::New(t), 3 * at + 1, (to - at) as u32);
 }
 
+// The same for the nodes of all tables.
 pub fn seal_all(area: &mut Area, at: Sizes, to: Sizes)
     requires { ⌜ ((k : ℕ) × (done : Table → Forest) × ((t : Table) → Opened (view (now area) (New t)) (pick t at) (pick t to) k (done t))) ⌝ }
     ensures grows { λ _. ⌜ ((k : ℕ) (done : Table → Forest) → ((t : Table) → Opened (view (now (area .entry)) (New t)) (pick t at) (pick t to) k (done t)) → (t : Table) → Grown (view (now (area .entry)) (New t)) (view (now (area .exit)) (New t)) (pick t at) (pick t to) k (node (done t))) ⌝ }

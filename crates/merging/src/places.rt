@@ -23,6 +23,7 @@ use stored::Spot;
 use stored::same;
 use stored::seek;
 
+// Where one table has the name.
 pub fn spot(here: Here, t: Table) -> Spot
     ensures { λ r. ⌜ r ≡ spotOf t here ⌝ }
 {
@@ -97,6 +98,7 @@ pub fn past(area: &Area, t: Table, x: Spot) -> usize
     }
 }
 
+// The same for all tables.
 pub fn past_all(area: &Area, here: Here) -> Sizes
     requires { ⌜ ((ts : Table → Tree) × Finds (now area) here ts) ⌝ }
     ensures { λ r. ⌜ ((ts : Table → Tree) → Finds (now (area .entry)) here ts → r ≡ each (λ t. spotOf t here .at + nodes (ts t))) ⌝ }

@@ -1,5 +1,6 @@
 use native.Mathlib.Omega.{arith}
-use Rattle.exports.proofs.Rounds.{held-on}
+use mathlib.Core.Path.{refl}
+use Rattle.merging.proofs.Laws.{still-held}
 use Rattle.exports.proofs.repeat.Needs as need
 
 pub loop-i-holds : need.loop-i-holds
@@ -13,7 +14,7 @@ round-made-requires c κs =
 pub loop-i-again : need.loop-i-again
 loop-i-again c o a b h r =
     let k = c .loop-i .inv o a b h r .0 in
-    (held-on k (c .round-made .ensures .only), λ z. c .round-made .ensures .merged o a b k r)
+    (still-held (c .round-made .ensures .only) (λ t. refl) k, λ z. c .round-made .ensures .merged o a b k r)
 
 pub returns : need.returns
 returns c o a b h r l = c .loop-i .inv o a b h r .1 (omega arith)

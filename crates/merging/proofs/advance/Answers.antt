@@ -1,7 +1,8 @@
 use mathlib.Core.Path.{refl}
 use native.Mathlib.Omega.{arith}
 use Rattle.area.proofs.Laws.{wider}
-use Rattle.merging.proofs.Turns.{standing, chosen-down, settling, opening, settled-turn, down-turn, settled-less, down-less}
+use Rattle.merging.proofs.Turns.{standing, settled-turn, down-turn}
+use Rattle.merging.proofs.Calls.{chosen-down, settling, opening, settled-less, down-less}
 use Rattle.merging.proofs.advance.Needs as need
 
 pub look-here-requires : need.look-here-requires

@@ -2,7 +2,7 @@ use mathlib.Core.Path.{refl}
 use native.Mathlib.Omega.{arith}
 use Rattle.area.proofs.Laws.{none, also}
 use Rattle.merging.specs.Going.{busy}
-use Rattle.merging.proofs.Turns.{still-busy, all-done}
+use Rattle.merging.proofs.Calls.{still-busy, all-done}
 use Rattle.merging.proofs.finish.Needs as need
 
 pub loop-walk-holds : need.loop-walk-holds

@@ -1,7 +1,8 @@
 use mathlib.Core.Path.{refl}
 use native.Mathlib.Omega.{arith}
 use Rattle.area.proofs.Laws.{wider, limit-small}
-use Rattle.merging.proofs.Turns.{topped, standing, closing, shuts, shut-less}
+use Rattle.merging.proofs.Turns.{standing, closing, shuts}
+use Rattle.merging.proofs.Calls.{topped, shut-less}
 use Rattle.merging.proofs.turn.Needs as need
 
 pub top-frame-requires : need.top-frame-requires

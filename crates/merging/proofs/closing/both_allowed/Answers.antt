@@ -1,11 +1,9 @@
-use mathlib.Core.Path.{refl, sym, ap, _∙_}
-use mathlib.Core.Bool.{_&&_}
-use Rattle.model.specs.Trees.{names}
-use Rattle.model.specs.Meaning.{allowed}
+use mathlib.Core.Path.{refl}
 use Rattle.area.specs.declared.regions.Table.the-variants.{Bench}
 use Rattle.area.specs.declared.regions.Region.the-variants.{New}
 use Rattle.area.proofs.Laws.{also}
 use Rattle.merging.proofs.Writing.{listing-in}
+use Rattle.merging.proofs.Sealing.{first-fails, second-tells}
 use Rattle.merging.proofs.closing.both_allowed.Needs as need
 
 pub names-allowed-requires : need.names-allowed-requires
@@ -16,21 +14,14 @@ names-allowed-requires-2 g c κs = (_, listing-in (c .names-allowed .ensures .on
 
 pub returns-then-not-names-allowed : need.returns-then-not-names-allowed
 returns-then-not-names-allowed g c =
-    let m = g .R·Rulebook .meaning (c .args .rules .now) in
-    let k = c .args .frame .class in
-    record {
-      answer = λ f h x y. ap (λ b. b && allowed m k (names h)) (sym (c .if-not-names-allowed .taken) ∙ c .names-allowed .ensures .answer f x);
-      only = c .names-allowed .ensures .only;
-    }
+    let d = c .names-allowed .ensures in
+    record { answer = λ f h x y. first-fails _ (c .if-not-names-allowed .taken) (d .answer f x); only = d .only }
 
 pub returns : need.returns
 returns g c =
-    let m = g .R·Rulebook .meaning (c .args .rules .now) in
-    let k = c .args .frame .class in
-    let p = c .names-allowed .ensures .only in
+    let d = c .names-allowed .ensures in
+    let e = c .names-allowed-2 .ensures in
     record {
-      answer = λ f h x y.
-          c .names-allowed-2 .ensures .answer h (listing-in (p .same (New Bench) refl) y)
-          ∙ ap (λ b. b && allowed m k (names h)) (sym (c .if-not-names-allowed .left) ∙ c .names-allowed .ensures .answer f x);
-      only = also p (c .names-allowed-2 .ensures .only) refl;
+      answer = λ f h x y. second-tells (c .if-not-names-allowed .left) (d .answer f x) (e .answer h (listing-in (d .only .same (New Bench) refl) y));
+      only = also (d .only) (e .only) refl;
     }

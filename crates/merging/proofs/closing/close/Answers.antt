@@ -1,4 +1,4 @@
-use mathlib.Core.Path.{refl, sym, ap, _∙_}
+use mathlib.Core.Path.{refl, sym, ap}
 use Rattle.area.specs.declared.regions.Table.the-variants.{Field, Bench}
 use Rattle.area.specs.declared.regions.Region.the-variants.{Tree as Old, New}
 use Rattle.area.proofs.Laws.{also, wider}
@@ -28,7 +28,7 @@ returns-then-both-allowed g c =
           c .both-allowed .ensures .answer _ _ (listing (s Field) (opened-room (w .opened Field)) (w .listed Field))
           (listing (s Bench) (opened-room (w .opened Bench)) (w .listed Bench)) in
           grown-in refl (p .same (New t) refl)
-          (grown-as (s t) (stands m (c .args .frame .class) (lv .one) (lv .two) (lv .done) (sym x ∙ c .if-both-allowed .taken) t));
+          (grown-as (s t) (stands m (c .args .frame .class) (lv .one) (lv .two) (lv .done) x (c .if-both-allowed .taken) t));
       only = also (wider (c .seal-all .ensures .only) refl) p refl;
     }
 
@@ -43,9 +43,9 @@ returns-else-both-allowed g c =
           let x =
           c .both-allowed .ensures .answer _ _ (listing (s Field) (opened-room (w .opened Field)) (w .listed Field))
           (listing (s Bench) (opened-room (w .opened Bench)) (w .listed Bench)) in
-          let hf = at-as (p .same (Old Field) refl ∙ z .same (Old Field) refl) (w .field-here) in
-          let hb = at-as (p .same (Old Bench) refl ∙ z .same (Old Bench) refl) (w .bench-here) in
+          let hf = at-as (p .same (Old Field) refl) (at-as (z .same (Old Field) refl) (w .field-here)) in
+          let hb = at-as (p .same (Old Bench) refl) (at-as (z .same (Old Bench) refl) (w .bench-here)) in
           grown-as (again (s t) (opened-room (w .opened t)) (grown-in (sym (p .same (New t) refl)) refl (c .roll-back .ensures .grows _ _ _ hf hb t)))
-          (ap (tree-of t) (refused m (c .args .frame .class) (lv .one) (lv .two) (lv .done) (sym x ∙ c .if-both-allowed .left)));
+          (ap (tree-of t) (refused m (c .args .frame .class) (lv .one) (lv .two) (lv .done) x (c .if-both-allowed .left)));
       only = also (also (wider z refl) p refl) (c .roll-back .ensures .only) refl;
     }

@@ -6,3 +6,4 @@ pub mod Walks
 pub mod Routes
 pub mod Grafts
 pub mod Descent
+pub mod Anywhere

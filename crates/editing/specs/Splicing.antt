@@ -32,3 +32,14 @@ pub record Splices (ws : List ℕ) (count : ℕ) (path : Path) (source : List �
 -- In an area: the tree that a table holds, and what stands at the front of a region. The next tree of a table may be twice as large as the limit.
 abbrev pub Given : Area → Table → ℕ → Path → Region → ℕ → Tree → Tree → Type 0
 Given a table count path source grown t u = Splices (view a (Held table)) count path (view a source) grown (2 * limit a) t u
+
+-- The same at a path of any length; the empty path has no parent.
+pub record Replaces (ws : List ℕ) (count : ℕ) (path : Path) (source : List ℕ) (grown most : ℕ) (t u : Tree) : Type 0 where
+  pub holds : Holds ws count t
+  pub unmarked : marks t ≡ 0
+  pub parent : 1 ≤ length path → Has-parent t path
+  pub offer : Offers source grown u
+  pub fits : nodes (set-at t path u) ≤ most
+
+abbrev pub Edited : Area → Table → ℕ → Path → Region → ℕ → Tree → Tree → Type 0
+Edited a table count path source grown t u = Replaces (view a (Held table)) count path (view a source) grown (2 * limit a) t u

@@ -8,7 +8,7 @@ use Rattle.stored.specs.Words.{below}
 use Rattle.stored.specs.Lookup.{smaller}
 use Rattle.editing.specs.declared.reading.Parts.{Parts}
 
--- The trees behind all whose names are not above k.
+-- The trees from the first name on that is above k, where names ascend.
 abbrev pub larger : ℕ → Forest → Forest
 larger k empty = empty
 larger k (child n t f) = cond (ltb n k) (larger k f) (cond (eqb n k) f (child n t f))

@@ -13,5 +13,6 @@ pub use obedience::first_unlawful;
 pub use reaching::nodes_at;
 pub use reaching::reach;
 pub use splicing::adopt;
+pub use splicing::edit;
 pub use splicing::splice;
 pub use types::Reach;

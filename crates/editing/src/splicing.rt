@@ -10,7 +10,7 @@ ghost use Rattle.stored.specs.Words.{tree-word, emit, emits, below, Stored, Sta
 ghost use Rattle.stored.specs.Lookup.{smaller};
 ghost use Rattle.area.specs.Views.{view, limit as limitIn, among, Only};
 ghost use Rattle.area.specs.declared.regions.Region.the-variants.{Tree, New};
-ghost use Rattle.editing.specs.Splicing.{Offers, Given};
+ghost use Rattle.editing.specs.Splicing.{Offers, Given, Edited};
 use super::reaching::nodes_at;
 use super::reading::split;
 use area::Area;
@@ -78,6 +78,28 @@ pub fn splice(
         3 * (count - behind),
     );
     count + grown - gone
+}
+
+// The same at a path of any length: at the empty path the whole tree is replaced, or taken away.
+pub fn edit(
+    area: &mut Area,
+    table: Table,
+    count: usize,
+    path: &[u32],
+    source: Region,
+    grown: usize,
+) -> usize
+    requires apart { ⌜ among source (New table ∷ []) ≡ false ⌝ }
+    requires given { ⌜ ((t u : Trees) × Edited (now area) table count (now path) source grown t u) ⌝ }
+    ensures number { λ r. ⌜ ((t u : Trees) → Edited (now (area .entry)) table count (now (path .entry)) source grown t u → r ≡ nodes (set-at t (now (path .entry)) u)) ⌝ }
+    ensures words { λ r. ⌜ ((t u : Trees) → Edited (now (area .entry)) table count (now (path .entry)) source grown t u → take (3 * r) (view (now (area .exit)) (New table)) ≡ emit (set-at t (now (path .entry)) u) 0 []) ⌝ }
+    ensures only { λ _. ⌜ Only (New table ∷ []) (now (area .entry)) (now (area .exit)) ⌝ }
+{
+    if path.len() == 0 {
+        plant(area, table, 0, 0, source, grown);
+        return grown;
+    }
+    splice(area, table, count, path, source, grown)
 }
 
 // Makes the next tree of a table, of `count` nodes, the tree that it holds.

@@ -16,7 +16,7 @@ loop-at-holds c = (
 )
 
 pub name-here-requires : need.name-here-requires
-name-here-requires c κs = let a = ahead (c .loop-at .inv .1 _ (c .pre .row .1)) (c .loop-at-test .taken) in (_, a .here)
+name-here-requires c κs = let a = ahead (c .loop-at .inv .1 _ (c .pre .row .1)) (omega arith) in (_, a .here)
 
 pub set-requires : need.set-requires
 set-requires c κs = omega (arith, c .loop-at .inv .0, c .loop-at .inv .2 .same-limit)
@@ -26,22 +26,22 @@ add-i c = omega (arith, c .loop-at .inv .0, limit-small (c .args .area .now))
 
 pub next-at-requires : need.next-at-requires
 next-at-requires c κs =
-    let a = ahead (c .loop-at .inv .1 _ (c .pre .row .1)) (c .loop-at-test .taken) in
+    let a = ahead (c .loop-at .inv .1 _ (c .pre .row .1)) (omega arith) in
     (_, carried (c .set .ensures .only .same (c .args .of) (not-names (c .args .of) (c .pre .trees))) (a .here))
 
 pub loop-at-less : need.loop-at-less
 loop-at-less c =
-    let a = ahead (c .loop-at .inv .1 _ (c .pre .row .1)) (c .loop-at-test .taken) in
+    let a = ahead (c .loop-at .inv .1 _ (c .pre .row .1)) (omega arith) in
     let e = c .set .ensures .only .same (c .args .of) (not-names (c .args .of) (c .pre .trees)) in
     omega (arith, c .next-at .ensures _ (carried e (a .here)), a .one, a .ends)
 
 pub loop-at-again : need.loop-at-again
 loop-at-again c = (
-  (let a = ahead (c .loop-at .inv .1 _ (c .pre .row .1)) (c .loop-at-test .taken) in
+  (let a = ahead (c .loop-at .inv .1 _ (c .pre .row .1)) (omega arith) in
       let e = c .set .ensures .only .same (c .args .of) (not-names (c .args .of) (c .pre .trees)) in
       omega (arith, c .next-at .ensures _ (carried e (a .here)), a .one, a .ends, c .loop-at .inv .0)),
   λ f b.
-      let a = ahead (c .loop-at .inv .1 f b) (c .loop-at-test .taken) in
+      let a = ahead (c .loop-at .inv .1 f b) (omega arith) in
       let e = c .set .ensures .only .same (c .args .of) (not-names (c .args .of) (c .pre .trees)) in
       rw (e, c .set .ensures .here)
       (step a _ (c .next-at .ensures _ (carried e (a .here)))
@@ -53,7 +53,7 @@ loop-at-again c = (
 pub returns : need.returns
 returns c =
     record {
-      many = λ f b. let w = done (c .loop-at .inv .1 f b) (c .loop-at-test .left) in omega (arith, w .count);
-      front = λ f b. let w = done (c .loop-at .inv .1 f b) (c .loop-at-test .left) in sym (append-nil _) ∙ w .so-far;
+      many = λ f b. let w = done (c .loop-at .inv .1 f b) (omega arith) in omega (arith, w .count);
+      front = λ f b. let w = done (c .loop-at .inv .1 f b) (omega arith) in sym (append-nil _) ∙ w .so-far;
       only = c .loop-at .inv .2;
     }

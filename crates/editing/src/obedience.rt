@@ -39,7 +39,7 @@ fn open<R: Rulebook>(
     requires stands { Standing (view area.old (Tree table)) at }
     requires room { 2 ≤ top }
     requires within { top ≤ 16 * limit area.old }
-    ensures answer { (s : Stored) → Stands (view area.old (Tree table)) at s → is_some result ≡ allowed (meaning rules.now) class (names (below s.tree)) }
+    ensures answer { (s : Stored) → Stands (view area.old (Tree table)) at s → is_some result ≡ allowed (R.meaning rules.now) class (names (below s.tree)) }
     ensures opened { (s : Stored) (new : ℕ) → Stands (view area.old (Tree table)) at s → result ≡ Some new → Opened (view area.old Stack) (view area.new Stack) top new class (at + nodes s.tree) }
     ensures only { Only (Names ∷ Stack ∷ []) area.old area.new }
 {
@@ -64,7 +64,7 @@ pub fn first_unlawful<R: Rulebook>(
     count: usize,
 ) -> Option<usize>
     requires { (t : Trees) × Holds (view area.old (Tree table)) count t × (marks t ≡ 0) }
-    ensures answer { (t : Trees) → Holds (view area.old (Tree table)) count t → marks t ≡ 0 → result ≡ first_fault (meaning rules.now) (Some 0) t }
+    ensures answer { (t : Trees) → Holds (view area.old (Tree table)) count t → marks t ≡ 0 → result ≡ first_fault (R.meaning rules.now) (Some 0) t }
     ensures only { Only (Names ∷ Stack ∷ []) area.old area.new }
 {
     if count == 0 {

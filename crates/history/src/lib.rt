@@ -20,8 +20,8 @@ pub use types::{Desk, Replay};
 
 // A call meets a file. One that a round would need does nothing.
 fn on_file<R: Rulebook>(rules: &R, mut file: File, call: Call) -> (Desk, Answer)
-    ensures state { state_of result.0 ≡ step_of_lem (meaning rules.now) (limit file) (of_file file) call.entry }
-    ensures answer { result.1 ≡ answer_of (meaning rules.now) (limit file) (of_file file) call.entry }
+    ensures state { state_of result.0 ≡ step_of_lem (R.meaning rules.now) (limit file) (of_file file) call.entry }
+    ensures answer { result.1 ≡ answer_of (R.meaning rules.now) (limit file) (of_file file) call.entry }
     ensures limit { limit_of result.0 ≡ limit file }
 {
     match call {
@@ -56,8 +56,8 @@ fn on_file<R: Rulebook>(rules: &R, mut file: File, call: Call) -> (Desk, Answer)
 
 // A call meets a round. Only adopt and drop do anything.
 fn on_round<R: Rulebook>(rules: &R, round: Round, call: Call) -> (Desk, Answer)
-    ensures state { state_of result.0 ≡ step_of_lem (meaning rules.now) (round_limit round) (of_round round) call.entry }
-    ensures answer { result.1 ≡ answer_of (meaning rules.now) (round_limit round) (of_round round) call.entry }
+    ensures state { state_of result.0 ≡ step_of_lem (R.meaning rules.now) (round_limit round) (of_round round) call.entry }
+    ensures answer { result.1 ≡ answer_of (R.meaning rules.now) (round_limit round) (of_round round) call.entry }
     ensures limit { limit_of result.0 ≡ round_limit round }
 {
     match call {
@@ -69,8 +69,8 @@ fn on_round<R: Rulebook>(rules: &R, round: Round, call: Call) -> (Desk, Answer)
 
 // One call.
 fn step<R: Rulebook>(rules: &R, desk: Desk, call: Call) -> (Desk, Answer)
-    ensures state { state_of result.0 ≡ step_of_lem (meaning rules.now) (limit_of desk) (state_of desk) call.entry }
-    ensures answer { result.1 ≡ answer_of (meaning rules.now) (limit_of desk) (state_of desk) call.entry }
+    ensures state { state_of result.0 ≡ step_of_lem (R.meaning rules.now) (limit_of desk) (state_of desk) call.entry }
+    ensures answer { result.1 ≡ answer_of (R.meaning rules.now) (limit_of desk) (state_of desk) call.entry }
     ensures limit { limit_of result.0 ≡ limit_of desk }
 {
     match desk {
@@ -90,12 +90,12 @@ pub fn replay<R: Rulebook>(
     rules: &R,
     calls: &[Call],
 ) -> Result<Replay, AllocError>
-    ensures stands_as_the_ledger_says { IfOk result (λ x. state_of x.desk ≡ stands (meaning rules.now) (limit_of (vec_len words)) start calls.now) }
-    ensures answers_as_the_ledger_says { IfOk result (λ x. x.answers.items ≡ AnswersOf (meaning rules.now) (limit_of (vec_len words)) start calls.now) }
-    ensures both_copies_obey { IfOk result (λ x. CopiesObey (meaning rules.now) (held (state_of x.desk))) }
-    ensures rounds_are_marked_at_conflicts { RoundsAreMarkedAtConflicts (meaning rules.now) (limit_of (vec_len words)) calls.now }
-    ensures rounds_are_safe { RoundsAreSafe (meaning rules.now) (limit_of (vec_len words)) calls.now }
-    ensures no_rival_does_more { NoRivalDoesMore (meaning rules.now) (limit_of (vec_len words)) calls.now }
+    ensures stands_as_the_ledger_says { IfOk result (λ x. state_of x.desk ≡ stands (R.meaning rules.now) (limit_of (vec_len words)) start calls.now) }
+    ensures answers_as_the_ledger_says { IfOk result (λ x. x.answers.items ≡ AnswersOf (R.meaning rules.now) (limit_of (vec_len words)) start calls.now) }
+    ensures both_copies_obey { IfOk result (λ x. CopiesObey (R.meaning rules.now) (held (state_of x.desk))) }
+    ensures rounds_are_marked_at_conflicts { RoundsAreMarkedAtConflicts (R.meaning rules.now) (limit_of (vec_len words)) calls.now }
+    ensures rounds_are_safe { RoundsAreSafe (R.meaning rules.now) (limit_of (vec_len words)) calls.now }
+    ensures no_rival_does_more { NoRivalDoesMore (R.meaning rules.now) (limit_of (vec_len words)) calls.now }
 {
     let mut desk = Desk::File(File::new(words));
     let mut answers = Vec::new(heap);

@@ -42,7 +42,7 @@ fn read_copy_within<R: Rulebook>(
     whose: Whose,
     limit: usize,
 ) -> Result<View, Refusal>
-    ensures { result ≡ viewed bytes.now (copy_loaded (meaning rules.now) limit whose bytes.now) }
+    ensures { result ≡ viewed bytes.now (copy_loaded (R.meaning rules.now) limit whose bytes.now) }
 {
     let wanted = Wanted {
         kind: TreeKind::Copy,
@@ -64,7 +64,7 @@ fn read_all<R: Rulebook>(
     field: &[u8],
     bench: &[u8],
 ) -> Result<Views, Refusal>
-    ensures { result ≡ views_of archive.now field.now bench.now (loaded (meaning rules.now) limit archive.now field.now bench.now) }
+    ensures { result ≡ views_of archive.now field.now bench.now (loaded (R.meaning rules.now) limit archive.now field.now bench.now) }
 {
     let wanted = Wanted {
         kind: TreeKind::Archive,
@@ -86,8 +86,8 @@ pub fn load<R: Rulebook>(
     field: &[u8],
     bench: &[u8],
 ) -> Result<Views, Refusal>
-    ensures answer { result ≡ views_of archive.now field.now bench.now (loaded (meaning rules.now) (limit_of area.old) archive.now field.now bench.now) }
-    ensures holds { (t : Outcome) → loaded (meaning rules.now) (limit_of area.old) archive.now field.now bench.now ≡ Ok t → (v : Views) → result ≡ Ok v → Loaded area.new v t }
+    ensures answer { result ≡ views_of archive.now field.now bench.now (loaded (R.meaning rules.now) (limit_of area.old) archive.now field.now bench.now) }
+    ensures holds { (t : Outcome) → loaded (R.meaning rules.now) (limit_of area.old) archive.now field.now bench.now ≡ Ok t → (v : Views) → result ≡ Ok v → Loaded area.new v t }
     ensures stays { is_err result ≡ true → Only [] area.old area.new }
     ensures only { Only (Tree Archive ∷ Tree Field ∷ Tree Bench ∷ []) area.old area.new }
 {

@@ -47,7 +47,7 @@ pub fn names_allowed<R: Rulebook>(
     end: usize,
 ) -> bool
     requires { (f : Forest) × Listing (view area.old (New t)) at end f }
-    ensures answer { (f : Forest) → Listing (view area.old (New t)) at end f → result ≡ is_allowed (meaning rules.now) class (names f) }
+    ensures answer { (f : Forest) → Listing (view area.old (New t)) at end f → result ≡ is_allowed (R.meaning rules.now) class (names f) }
     ensures only { Only (Names ∷ []) area.old area.new }
 {
     let count = gather(area, t, at, end);
@@ -57,7 +57,7 @@ pub fn names_allowed<R: Rulebook>(
 // Whether that holds of both copies of a node.
 pub fn both_allowed<R: Rulebook>(rules: &R, area: &mut Area, frame: Frame, new: Sizes) -> bool
     requires { (f g : Forest) × Listing (view area.old (New Field)) frame.new.field new.field f × Listing (view area.old (New Bench)) frame.new.bench new.bench g }
-    ensures answer { (f g : Forest) → Listing (view area.old (New Field)) frame.new.field new.field f → Listing (view area.old (New Bench)) frame.new.bench new.bench g → result ≡ (is_allowed (meaning rules.now) frame.class (names f) && is_allowed (meaning rules.now) frame.class (names g)) }
+    ensures answer { (f g : Forest) → Listing (view area.old (New Field)) frame.new.field new.field f → Listing (view area.old (New Bench)) frame.new.bench new.bench g → result ≡ (is_allowed (R.meaning rules.now) frame.class (names f) && is_allowed (R.meaning rules.now) frame.class (names g)) }
     ensures only { Only (Names ∷ []) area.old area.new }
 {
     let (class, at) = (frame.class, frame.new);
@@ -88,7 +88,7 @@ pub fn roll_back(area: &mut Area, frame: Frame) -> Sizes
 // Closes a node whose children are all done: what was written stands if the names of both copies are allowed.
 pub fn close<R: Rulebook>(rules: &R, area: &mut Area, frame: Frame, new: Sizes) -> Sizes
     requires { (lv : Level) × Closing area.old frame new lv }
-    ensures grows { (lv : Level) → Closing area.old frame new lv → (t : Table) → Grown (view area.old (New t)) (view area.new (New t)) (pick t frame.new) (pick t result) lv.name (tree_of t (sealed (meaning rules.now) frame.class lv.one lv.two lv.done)) }
+    ensures grows { (lv : Level) → Closing area.old frame new lv → (t : Table) → Grown (view area.old (New t)) (view area.new (New t)) (pick t frame.new) (pick t result) lv.name (tree_of t (sealed (R.meaning rules.now) frame.class lv.one lv.two lv.done)) }
     ensures only { Only (New Archive ∷ New Field ∷ New Bench ∷ Names ∷ []) area.old area.new }
 {
     seal_all(area, frame.new, new);

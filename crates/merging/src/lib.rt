@@ -51,9 +51,9 @@ fn descend(area: &mut Area, class: Option<u32>, here: Here, walk: Walk) -> Walk
 
 // Merges the next name of a level that has one: it is settled, or the walk goes down to its children.
 fn advance<R: Rulebook>(rules: &R, area: &mut Area, walk: Walk, frame: Frame) -> Walk
-    requires given { (target : Outcome) × Topped (meaning rules.now) target area.old walk frame }
+    requires given { (target : Outcome) × Topped (R.meaning rules.now) target area.old walk frame }
     requires more { walk.at.field + walk.at.bench < frame.ends.field + frame.ends.bench }
-    ensures goes { (target : Outcome) → Topped (meaning rules.now) target area.old walk frame → State (meaning rules.now) target area.new result }
+    ensures goes { (target : Outcome) → Topped (R.meaning rules.now) target area.old walk frame → State (R.meaning rules.now) target area.new result }
     ensures less { work area.new result < work area.old walk }
     ensures only { Only (New Archive ∷ New Field ∷ New Bench ∷ Stack ∷ Names ∷ []) area.old area.new }
 {
@@ -73,8 +73,8 @@ fn advance<R: Rulebook>(rules: &R, area: &mut Area, walk: Walk, frame: Frame) ->
 
 // One turn of the round: the level on top of the stack goes on, or is closed where no name is left.
 fn turn<R: Rulebook>(rules: &R, area: &mut Area, walk: Walk) -> Walk
-    requires { (target : Outcome) × Busy (meaning rules.now) target area.old walk }
-    ensures goes { (target : Outcome) → Busy (meaning rules.now) target area.old walk → State (meaning rules.now) target area.new result }
+    requires { (target : Outcome) × Busy (R.meaning rules.now) target area.old walk }
+    ensures goes { (target : Outcome) → Busy (R.meaning rules.now) target area.old walk → State (R.meaning rules.now) target area.new result }
     ensures less { work area.new result < work area.old walk }
     ensures only { Only (New Archive ∷ New Field ∷ New Bench ∷ Stack ∷ Names ∷ []) area.old area.new }
 {
@@ -92,8 +92,8 @@ fn turn<R: Rulebook>(rules: &R, area: &mut Area, walk: Walk) -> Walk
 
 // Goes on until every level is closed.
 fn finish<R: Rulebook>(rules: &R, area: &mut Area, start: Walk) -> Sizes
-    requires { (target : Outcome) × Busy (meaning rules.now) target area.old start }
-    ensures merged { (target : Outcome) → Busy (meaning rules.now) target area.old start → Merged target area.new result }
+    requires { (target : Outcome) × Busy (R.meaning rules.now) target area.old start }
+    ensures merged { (target : Outcome) → Busy (R.meaning rules.now) target area.old start → Merged target area.new result }
     ensures only { Only (New Archive ∷ New Field ∷ New Bench ∷ Stack ∷ Names ∷ []) area.old area.new }
 {
     let full = area.size(Region::Stack);
@@ -106,8 +106,8 @@ fn finish<R: Rulebook>(rules: &R, area: &mut Area, start: Walk) -> Sizes
 
 // The round. It writes the new tree of each table, and gives their numbers of nodes; the trees that the area holds stay.
 pub fn round<R: Rulebook>(rules: &R, area: &mut Area, sizes: Sizes) -> Sizes
-    requires given { (o a b : Tree) × Held area.old sizes o a b × Ready (meaning rules.now) (Some 0) o a b }
-    ensures merged { (o a b : Tree) → Held area.old sizes o a b → Ready (meaning rules.now) (Some 0) o a b → Merged (round_of (meaning rules.now) o a b) area.new result }
+    requires given { (o a b : Tree) × Held area.old sizes o a b × Ready (R.meaning rules.now) (Some 0) o a b }
+    ensures merged { (o a b : Tree) → Held area.old sizes o a b → Ready (R.meaning rules.now) (Some 0) o a b → Merged (round_of (R.meaning rules.now) o a b) area.new result }
     ensures only { Only (New Archive ∷ New Field ∷ New Bench ∷ Stack ∷ Names ∷ []) area.old area.new }
 {
     let here = Here {

@@ -26,7 +26,7 @@ pub struct Level {
 
 // The class under a name; below no class there is none.
 pub fn class_under<R: Rulebook>(rules: &R, class: Option<u32>, name: u32) -> Option<u32>
-    ensures { result ≡ class_under (meaning rules.now) class name }
+    ensures { result ≡ class_under (R.meaning rules.now) class name }
 {
     match class {
         Some(class) => rules.class_under(class, name),
@@ -36,7 +36,7 @@ pub fn class_under<R: Rulebook>(rules: &R, class: Option<u32>, name: u32) -> Opt
 
 // The class at the end of a path from the root, which is of class 0.
 pub fn class_at<R: Rulebook>(rules: &R, path: &[u32]) -> Option<u32>
-    ensures { result ≡ class_at (meaning rules.now) (Some 0) path.now }
+    ensures { result ≡ class_at (R.meaning rules.now) (Some 0) path.now }
 {
     let mut class = Some(0);
     for name in path {
@@ -47,7 +47,7 @@ pub fn class_at<R: Rulebook>(rules: &R, path: &[u32]) -> Option<u32>
 
 // Whether names are allowed; where there is no class, none are.
 pub fn allowed<R: Rulebook>(rules: &R, class: Option<u32>, names: &[u32]) -> bool
-    ensures { result ≡ is_allowed (meaning rules.now) class names.now }
+    ensures { result ≡ is_allowed (R.meaning rules.now) class names.now }
 {
     match class {
         Some(class) => rules.allowed(class, names),
@@ -57,7 +57,7 @@ pub fn allowed<R: Rulebook>(rules: &R, class: Option<u32>, names: &[u32]) -> boo
 
 // The lower of the faults found so far and a node, if the names of that node are not allowed.
 fn close<R: Rulebook>(rules: &R, level: Level, names: &[u32], fault: Option<usize>) -> Option<usize>
-    ensures { result ≡ lower fault (own (meaning rules.now) level.class level.node names.now) }
+    ensures { result ≡ lower fault (own (R.meaning rules.now) level.class level.node names.now) }
 {
     if allowed(rules, level.class, names) {
         return fault;
@@ -77,7 +77,7 @@ pub fn first_unlawful<R: Rulebook>(
     view: View,
 ) -> Option<usize>
     requires { (t : Tree) × Shows bytes.now view t × (marks t ≡ 0) }
-    ensures { (t : Tree) → Shows bytes.now view t → marks t ≡ 0 → result ≡ first_fault (meaning rules.now) class t }
+    ensures { (t : Tree) → Shows bytes.now view t → marks t ≡ 0 → result ≡ first_fault (R.meaning rules.now) class t }
 {
     if view.count == 0 {
         return None;
@@ -133,8 +133,8 @@ pub fn read_copy<R: Rulebook>(
     whose: Whose,
     depth: usize,
 ) -> Result<View, Refusal>
-    ensures answer { result ≡ viewed bytes.now (then (says bytes.now (copy_of whose depth)) (lawful (meaning rules.now) class whose)) }
-    ensures obeys { (v : View) → result ≡ Ok v → (t : Tree) × Fits (copy_of whose depth) t × EndsWith bytes.now t TreeKind.Copy × Obeys (meaning rules.now) class t × (v ≡ view_of bytes.now t) }
+    ensures answer { result ≡ viewed bytes.now (then (says bytes.now (copy_of whose depth)) (lawful (R.meaning rules.now) class whose)) }
+    ensures obeys { (v : View) → result ≡ Ok v → (t : Tree) × Fits (copy_of whose depth) t × EndsWith bytes.now t TreeKind.Copy × Obeys (R.meaning rules.now) class t × (v ≡ view_of bytes.now t) }
 {
     let wanted = Wanted {
         kind: TreeKind::Copy,

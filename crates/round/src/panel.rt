@@ -50,8 +50,8 @@ pub fn copy_text<R: Rulebook>(
     out: &mut [u8],
 ) -> Result<usize, Refusal>
     requires { 12288 ≤ length words.old }
-    ensures answer { result ≡ length_shown (then (says bytes.now (copy_of whose 0)) (lawful (meaning rules.now) (Some 0) whose)) out.old }
-    ensures output { out.new ≡ output_shown (then (says bytes.now (copy_of whose 0)) (lawful (meaning rules.now) (Some 0) whose)) out.old }
+    ensures answer { result ≡ length_shown (then (says bytes.now (copy_of whose 0)) (lawful (R.meaning rules.now) (Some 0) whose)) out.old }
+    ensures output { out.new ≡ output_shown (then (says bytes.now (copy_of whose 0)) (lawful (R.meaning rules.now) (Some 0) whose)) out.old }
 {
     let view = read_copy(rules, Some(0), bytes, whose, 0)?;
     view_text(bytes, view, words, out)

@@ -37,6 +37,14 @@ pub passed_ok : {X : Type 0} (x : Result X Refusal) → ◌≡◌ {A = Result (U
 passed_ok (Ok v) e = (v, refl)
 passed_ok (Err f) e = not_both e
 
+-- Two tests in a row, of which the first passes.
+pub both_told : {X Y Z : Type 0} (x : Result X Refusal) (y : Result Y Refusal) (s : Z) {r : Result (Unit {0}) Refusal}
+    → ◌≡◌ {A = Result (Unit {0}) Refusal} (Ok (tt {0})) (passed (tt {0}) x) → r ≡ passed (tt {0}) y
+    → r ≡ passed (tt {0}) (then x (λ a. then y (λ b. Ok s)))
+both_told (Ok v) (Ok w) s p q = q
+both_told (Ok v) (Err d) s p q = q
+both_told (Err d) y s p q = not_both p
+
 -- A tree that is read, and then held to the rulebook, as two tests.
 pub two_fail : {X Y Z E : Type 0} (x : Result X E) (f : X → Result Y E) (k : Y → Result Z E) {d : E} → then x f ≡ Err d → then x (λ v. then (f v) k) ≡ Err d
 two_fail (Ok v) f k e = err_first k e

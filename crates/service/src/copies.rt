@@ -41,7 +41,7 @@ pub(crate) fn size(side: Side, sizes: Sizes) -> usize
 // Holds one copy to the rulebook.
 fn obey<R: Rulebook>(rules: &R, area: &mut Area, side: Side, count: usize) -> Result<(), Refusal>
     requires { (t : TheTree) × Holds (view area.old (Tree (table_of side))) count t × (marks t ≡ 0) }
-    ensures answer { (t : TheTree) → Holds (view area.old (Tree (table_of side))) count t → marks t ≡ 0 → result ≡ passed tt (lawful (meaning rules.now) (Some 0) (whose_of side) t) }
+    ensures answer { (t : TheTree) → Holds (view area.old (Tree (table_of side))) count t → marks t ≡ 0 → result ≡ passed tt (lawful (R.meaning rules.now) (Some 0) (whose_of side) t) }
     ensures only { Only (Names ∷ Stack ∷ []) area.old area.new }
 {
     match first_unlawful(rules, area, table(side), count) {
@@ -57,7 +57,7 @@ pub(crate) fn both_obey<R: Rulebook>(
     sizes: Sizes,
 ) -> Result<(), Refusal>
     requires { (s : Outcome) × Kept area.old Tree sizes s }
-    ensures answer { (s : Outcome) → Kept area.old Tree sizes s → result ≡ passed tt (both_obey (meaning rules.now) s) }
+    ensures answer { (s : Outcome) → Kept area.old Tree sizes s → result ≡ passed tt (both_obey (R.meaning rules.now) s) }
     ensures only { Only (Names ∷ Stack ∷ []) area.old area.new }
 {
     obey(rules, area, Side::Field, sizes.field)?;

@@ -30,8 +30,8 @@ fn fit(limit: usize, whose: Whose, count: usize) -> Result<(), Refusal>
 // nodes of the outcome.
 pub(crate) fn draw<R: Rulebook>(rules: &R, area: &mut Area, sizes: Sizes) -> Result<Sizes, Refusal>
     requires { (s : Outcome) × Kept area.old Tree sizes s }
-    ensures answer { (s : Outcome) → Kept area.old Tree sizes s → result ≡ sized (draw_answer (meaning rules.now) (limit_in area.old) s) }
-    ensures came { (s o : Outcome) → Kept area.old Tree sizes s → draw_answer (meaning rules.now) (limit_in area.old) s ≡ Ok o → Kept area.new New (sizes_of o) o }
+    ensures answer { (s : Outcome) → Kept area.old Tree sizes s → result ≡ sized (draw_answer (R.meaning rules.now) (limit_in area.old) s) }
+    ensures came { (s o : Outcome) → Kept area.old Tree sizes s → draw_answer (R.meaning rules.now) (limit_in area.old) s ≡ Ok o → Kept area.new New (sizes_of o) o }
     ensures only { Only (New Archive ∷ New Field ∷ New Bench ∷ Stack ∷ Names ∷ []) area.old area.new }
 {
     both_obey(rules, area, sizes)?;

@@ -92,7 +92,7 @@ fn may_edit<R: Rulebook>(
     change: Change,
 ) -> Result<(), Refusal>
     requires { (s : Outcome) × Kept area.old Tree sizes s }
-    ensures answer { (s : Outcome) → Kept area.old Tree sizes s → result ≡ passed tt (editable (meaning rules.now) s side path.now change) }
+    ensures answer { (s : Outcome) → Kept area.old Tree sizes s → result ≡ passed tt (editable (R.meaning rules.now) s side path.now change) }
     ensures ready { (s : Outcome) → Kept area.old Tree sizes s → result ≡ Ok tt → Editable (copy side s) path.now }
     ensures only { Only (Names ∷ Stack ∷ []) area.old area.new }
 {
@@ -114,7 +114,7 @@ pub(crate) fn put<R: Rulebook>(
     bytes: &[u8],
 ) -> Result<Sizes, Refusal>
     requires { (s : Outcome) × Kept area.old Tree sizes s }
-    ensures { (s : Outcome) → Kept area.old Tree sizes s → Answered area.old area.new s (put_answer (meaning rules.now) (limit area.old) s side path.now bytes.now) result }
+    ensures { (s : Outcome) → Kept area.old Tree sizes s → Answered area.old area.new s (put_answer (R.meaning rules.now) (limit area.old) s side path.now bytes.now) result }
 {
     may_edit(rules, area, sizes, side, path, Change::Put)?;
     let class = class_at(rules, path);
@@ -132,7 +132,7 @@ pub(crate) fn strike<R: Rulebook>(
     path: &[u32],
 ) -> Result<Sizes, Refusal>
     requires { (s : Outcome) × Kept area.old Tree sizes s }
-    ensures { (s : Outcome) → Kept area.old Tree sizes s → Answered area.old area.new s (strike_answer (meaning rules.now) s side path.now) result }
+    ensures { (s : Outcome) → Kept area.old Tree sizes s → Answered area.old area.new s (strike_answer (R.meaning rules.now) s side path.now) result }
 {
     may_edit(rules, area, sizes, side, path, Change::Strike)?;
     let new = renew(area, side, size(side, sizes), path, 0);

@@ -9,7 +9,7 @@ ghost use Rattle.area.specs.Layout.{limit_of};
 ghost use Rattle.ledger.specs.Answers.{load_answer, put_answer, strike_answer, draw_answer, left, told};
 ghost use Rattle.ledger.specs.Ledger.{start, file, drawn, held, refusal_of};
 ghost use Rattle.text.specs.Report.{report as report_of};
-ghost use Rattle.service.specs.Service.{trees, limit as limit_of, of_file, before, came, of_round, round_limit, pick, size_in, kind_of, wanted_of, reported};
+ghost use Rattle.service.specs.Service.{trees, limit as file_limit, of_file, before, came, of_round, round_limit, pick, size_in, kind_of, wanted_of, reported};
 
 use area::{Area, Region, Table};
 use drawing::take_over;
@@ -56,7 +56,7 @@ impl File {
     // Makes a file over an area of any length. It holds three missing trees.
     pub fn new(words: Vec<u32>) -> File
         ensures state { of_file result ≡ start }
-        ensures limit { limit_of result ≡ limit_of (vec_len words) }
+        ensures limit { file_limit result ≡ limit_of (vec_len words) }
     {
         File {
             area: Area::new(words),
@@ -76,9 +76,9 @@ impl File {
         field: &[u8],
         bench: &[u8],
     ) -> Result<(), Refusal>
-        ensures answer { result ≡ told (load_answer (meaning rules.now) (limit_of self.old) archive.now field.now bench.now) }
-        ensures state { trees self.new ≡ left (trees self.old) (load_answer (meaning rules.now) (limit_of self.old) archive.now field.now bench.now) }
-        ensures limit { limit_of self.new ≡ limit_of self.old }
+        ensures answer { result ≡ told (load_answer (R.meaning rules.now) (file_limit self.old) archive.now field.now bench.now) }
+        ensures state { trees self.new ≡ left (trees self.old) (load_answer (R.meaning rules.now) (file_limit self.old) archive.now field.now bench.now) }
+        ensures limit { file_limit self.new ≡ file_limit self.old }
     {
         self.sizes = loads::load(rules, &mut self.area, archive, field, bench)?;
         Ok(())
@@ -92,9 +92,9 @@ impl File {
         path: &[u32],
         bytes: &[u8],
     ) -> Result<(), Refusal>
-        ensures answer { result ≡ told (put_answer (meaning rules.now) (limit_of self.old) (trees self.old) side path.now bytes.now) }
-        ensures state { trees self.new ≡ left (trees self.old) (put_answer (meaning rules.now) (limit_of self.old) (trees self.old) side path.now bytes.now) }
-        ensures limit { limit_of self.new ≡ limit_of self.old }
+        ensures answer { result ≡ told (put_answer (R.meaning rules.now) (file_limit self.old) (trees self.old) side path.now bytes.now) }
+        ensures state { trees self.new ≡ left (trees self.old) (put_answer (R.meaning rules.now) (file_limit self.old) (trees self.old) side path.now bytes.now) }
+        ensures limit { file_limit self.new ≡ file_limit self.old }
     {
         self.sizes = edits::put(rules, &mut self.area, self.sizes, side, path, bytes)?;
         Ok(())
@@ -107,9 +107,9 @@ impl File {
         side: Side,
         path: &[u32],
     ) -> Result<(), Refusal>
-        ensures answer { result ≡ told (strike_answer (meaning rules.now) (trees self.old) side path.now) }
-        ensures state { trees self.new ≡ left (trees self.old) (strike_answer (meaning rules.now) (trees self.old) side path.now) }
-        ensures limit { limit_of self.new ≡ limit_of self.old }
+        ensures answer { result ≡ told (strike_answer (R.meaning rules.now) (trees self.old) side path.now) }
+        ensures state { trees self.new ≡ left (trees self.old) (strike_answer (R.meaning rules.now) (trees self.old) side path.now) }
+        ensures limit { file_limit self.new ≡ file_limit self.old }
     {
         self.sizes = edits::strike(rules, &mut self.area, self.sizes, side, path)?;
         Ok(())
@@ -117,8 +117,8 @@ impl File {
 
     // Turns the file into a round. A refused draw gives a round too: its outcome is the file's own trees.
     pub fn draw<R: Rulebook>(self, rules: &R) -> Round
-        ensures state { of_round result ≡ drawn (trees self) (draw_answer (meaning rules.now) (limit_of self) (trees self)) }
-        ensures limit { round_limit result ≡ limit_of self }
+        ensures state { of_round result ≡ drawn (trees self) (draw_answer (R.meaning rules.now) (file_limit self) (trees self)) }
+        ensures limit { round_limit result ≡ file_limit self }
     {
         let File { mut area, sizes } = self;
         let drawn = drawing::draw(rules, &mut area, sizes);
@@ -161,7 +161,7 @@ impl Round {
     // Turns the round into a file with the outcome.
     pub fn adopt(self) -> File
         ensures state { of_file result ≡ file (held (of_round self)) }
-        ensures limit { limit_of result ≡ round_limit self }
+        ensures limit { file_limit result ≡ round_limit self }
     {
         let Round {
             mut area,
@@ -183,7 +183,7 @@ impl Round {
     // Turns the round into the file that it was drawn from.
     pub fn drop(self) -> File
         ensures state { of_file result ≡ file (before self) }
-        ensures limit { limit_of result ≡ round_limit self }
+        ensures limit { file_limit result ≡ round_limit self }
     {
         let Round {
             area,

@@ -20,7 +20,7 @@ pub(crate) fn load<R: Rulebook>(
     field: &[u8],
     bench: &[u8],
 ) -> Result<Sizes, Refusal>
-    ensures { (n : Counts) (s : Outcome) → Kept area.old Tree n s → Answered area.old area.new s (load_answer (meaning rules.now) (limit area.old) archive.now field.now bench.now) result }
+    ensures { (n : Counts) (s : Outcome) → Kept area.old Tree n s → Answered area.old area.new s (load_answer (R.meaning rules.now) (limit area.old) archive.now field.now bench.now) result }
 {
     let views = loading::load(rules, area, archive, field, bench)?;
     Ok(Sizes {

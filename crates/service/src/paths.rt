@@ -93,7 +93,7 @@ pub(crate) fn parent_allows<R: Rulebook>(
     change: Change,
 ) -> Result<(), Refusal>
     requires { (t : TheTree) × Holds (view area.old (Tree (table_of side))) count t × (marks t ≡ 0) × (parent_stands t path.now ≡ true) }
-    ensures answer { (t : TheTree) → Holds (view area.old (Tree (table_of side))) count t → marks t ≡ 0 → parent_stands t path.now ≡ true → result ≡ passed tt (parent_allows (meaning rules.now) (whose_of side) t path.now (changed change (last_name path.now))) }
+    ensures answer { (t : TheTree) → Holds (view area.old (Tree (table_of side))) count t → marks t ≡ 0 → parent_stands t path.now ≡ true → result ≡ passed tt (parent_allows (R.meaning rules.now) (whose_of side) t path.now (changed change (last_name path.now))) }
     ensures only { Only (Names ∷ []) area.old area.new }
 {
     if path.len() == 0 {

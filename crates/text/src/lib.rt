@@ -168,7 +168,8 @@ fn put_field(out: &mut [u8], at: usize, word: &[u8], n: usize) -> usize
 }
 
 fn put_line(refusal: Refusal, out: &mut [u8]) -> usize
-    ensures { Laid out.old 0 (line refusal) out.new result }
+    ensures laid { Laid out.old 0 (line refusal) out.new result }
+    ensures short { result ≤ 200 }
 {
     let reason = refusal.reason;
     let at = put_field(out, 0, b"refused ", reason.number() as usize);

@@ -16,7 +16,7 @@ returns-in-Err c =
 pub returns-then-words-view : goal.returns-then-words-view
 returns-then-words-view c =
     let bs = c.args.bytes.now in
-    let f = found bs (copy_of Field 0) c.in-Ok.view (λ i. (c.type-inv.bytes i).fits) c.in-Ok.ensures.answer in
+    let f = found bs (copy_of Field 0) c.in-Ok.view (λ i. (c.type_inv.bytes i).fits) c.in-Ok.ensures.answer in
     record {
       answer = crowded_length bs (says bs (copy_of Field 0)) (length c.args.words.now) c.args.out.now f.tree _ f.is f.shows.count c.if-words-view.true;
       output = crowded_output bs (says bs (copy_of Field 0)) (length c.args.words.now) c.args.out.now f.tree _ f.is f.shows.count c.if-words-view.true;
@@ -24,22 +24,22 @@ returns-then-words-view c =
 
 pub store-requires : goal.store-requires
 store-requires c =
-    let f = found c.args.bytes.now (copy_of Field 0) c.in-Ok.view (λ i. (c.type-inv.bytes i).fits) c.in-Ok.ensures.answer in
+    let f = found c.args.bytes.now (copy_of Field 0) c.in-Ok.view (λ i. (c.type_inv.bytes i).fits) c.in-Ok.ensures.answer in
     record { shown = (f.tree, f.shows); room = c.if-words-view.false }
 
 pub write-requires : goal.write-requires
 write-requires c =
-    let f = found c.args.bytes.now (copy_of Field 0) c.in-Ok.view (λ i. (c.type-inv.bytes i).fits) c.in-Ok.ensures.answer in
+    let f = found c.args.bytes.now (copy_of Field 0) c.in-Ok.view (λ i. (c.type_inv.bytes i).fits) c.in-Ok.ensures.answer in
     record { held = (f.tree, held _ _ f.shows (c.store.ensures f.tree f.shows)) }
 
 pub returns : goal.returns
 returns c =
     let bs = c.args.bytes.now in
-    let f = found bs (copy_of Field 0) c.in-Ok.view (λ i. (c.type-inv.bytes i).fits) c.in-Ok.ensures.answer in
+    let f = found bs (copy_of Field 0) c.in-Ok.view (λ i. (c.type_inv.bytes i).fits) c.in-Ok.ensures.answer in
     let h = held _ _ f.shows (c.store.ensures f.tree f.shows) in
     record {
       answer =
-          fits_length bs (says bs (copy_of Field 0)) (length c.args.words.now) c.args.out.now f.tree _ f.is f.shows.count c.if-words-view.false _ _ c.unwrap-or.ensures
+          fits_length bs (says bs (copy_of Field 0)) (length c.args.words.now) c.args.out.now f.tree _ f.is f.shows.count c.if-words-view.false _ _ c.unwrap_or.ensures
           (c.write.ensures.answer f.tree h);
       output =
           fits_output bs (says bs (copy_of Field 0)) (length c.args.words.now) c.args.out.now f.tree _ f.is f.shows.count c.if-words-view.false _ (c.write.ensures.after f.tree h);

@@ -4,15 +4,15 @@ use Rattle.exports.proofs.panel_rounds.Goals as goal
 
 pub repeat-made-requires : goal.repeat-made-requires
 repeat-made-requires c =
-    let x = found c.load.new.area _ c.args.archive.now c.args.field.now c.args.bench.now c.in-Ok-load.views (λ i. (c.type-inv.archive i).fits) (λ i. (c.type-inv.field i).fits) (λ i. (c.type-inv.bench i).fits) c.in-Ok-load.ensures.answer c.in-Ok-load.ensures.holds in
+    let x = found c.load.new.area _ c.args.archive.now c.args.field.now c.args.bench.now c.in-Ok-load.views (λ i. (c.type_inv.archive i).fits) (λ i. (c.type_inv.field i).fits) (λ i. (c.type_inv.bench i).fits) c.in-Ok-load.ensures.answer c.in-Ok-load.ensures.holds in
     (x.trees.archive, x.trees.field, x.trees.bench, x.held, x.ready)
 
-pub overflow-add-result : goal.overflow-add-result
-overflow-add-result c =
-    let x = found c.load.new.area _ c.args.archive.now c.args.field.now c.args.bench.now c.in-Ok-load.views (λ i. (c.type-inv.archive i).fits) (λ i. (c.type-inv.field i).fits) (λ i. (c.type-inv.bench i).fits) c.in-Ok-load.ensures.answer c.in-Ok-load.ensures.holds in
+pub overflow_add-result : goal.overflow_add-result
+overflow_add-result c =
+    let x = found c.load.new.area _ c.args.archive.now c.args.field.now c.args.bench.now c.in-Ok-load.views (λ i. (c.type_inv.archive i).fits) (λ i. (c.type_inv.field i).fits) (λ i. (c.type_inv.bench i).fits) c.in-Ok-load.ensures.answer c.in-Ok-load.ensures.holds in
     omega (arith, few x c.repeat-made.new.area c.repeat-made.result (c.repeat-made.ensures x.trees.archive x.trees.field x.trees.bench x.held x.ready (omega arith)))
 
 pub returns-in-Ok-load : goal.returns-in-Ok-load
 returns-in-Ok-load c =
-    let x = found c.load.new.area _ c.args.archive.now c.args.field.now c.args.bench.now c.in-Ok-load.views (λ i. (c.type-inv.archive i).fits) (λ i. (c.type-inv.field i).fits) (λ i. (c.type-inv.bench i).fits) c.in-Ok-load.ensures.answer c.in-Ok-load.ensures.holds in
+    let x = found c.load.new.area _ c.args.archive.now c.args.field.now c.args.bench.now c.in-Ok-load.views (λ i. (c.type_inv.archive i).fits) (λ i. (c.type_inv.field i).fits) (λ i. (c.type_inv.bench i).fits) c.in-Ok-load.ensures.answer c.in-Ok-load.ensures.holds in
     told x c.repeat-made.new.area c.repeat-made.result (c.repeat-made.ensures x.trees.archive x.trees.field x.trees.bench x.held x.ready (omega arith))

@@ -23,8 +23,8 @@ descend-requires g c =
     let e = chosen_down x _ _ (c.choose.ensures _ (λ t. (k.seen t).here)) c.in-Down.is in
     (_, opening x c.look-here.result k e)
 
-pub past-all-requires : goal.past-all-requires
-past-all-requires g c =
+pub past_all-requires : goal.past_all-requires
+past_all-requires g c =
     let x = c.requires.given.1.2 in
     let k = c.look-here.ensures _ x.rests.0.lies x.rests.0.ascend in
     (_, λ t. (k.seen t).here)
@@ -34,7 +34,7 @@ settle-requires g c =
     let x = c.requires.given.1.2 in
     let k = c.look-here.ensures _ x.rests.0.lies x.rests.0.ascend in
     let e = c.choose.ensures _ (λ t. (k.seen t).here) in
-    (_, (λ t. (k.seen t).here), settling x c.look-here.result k c.choose.result e c.in-default.not-Down)
+    (_, (λ t. (k.seen t).here), settling x c.look-here.result k c.choose.result e c.in_default.not-Down)
 
 pub returns-in-Down : goal.returns-in-Down
 returns-in-Down g c =
@@ -45,7 +45,7 @@ returns-in-Down g c =
           let x = b.2 in
           let k = c.look-here.ensures _ x.rests.0.lies x.rests.0.ascend in
           let e = chosen_down x _ _ (c.choose.ensures _ (λ t. (k.seen t).here)) c.in-Down.is in
-          down_turn x h k e c.descend.new.area _ c.descend.result c.class-under-class.ensures (d.opens _ (opening x h k e)) d.only;
+          down_turn x h k e c.descend.new.area _ c.descend.result c.class_under-class.ensures (d.opens _ (opening x h k e)) d.only;
       less =
           let x = c.requires.given.1.2 in
           let k = c.look-here.ensures _ x.rests.0.lies x.rests.0.ascend in
@@ -55,8 +55,8 @@ returns-in-Down g c =
       only = wider d.only refl;
     }
 
-pub returns-in-default : goal.returns-in-default
-returns-in-default g c =
+pub returns-in_default : goal.returns-in_default
+returns-in_default g c =
     let h = c.look-here.result in
     let d = c.settle.ensures in
     record {
@@ -64,12 +64,12 @@ returns-in-default g c =
           let x = b.2 in
           let k = c.look-here.ensures _ x.rests.0.lies x.rests.0.ascend in
           let e = c.choose.ensures _ (λ t. (k.seen t).here) in
-          settled_turn x h k c.choose.result e c.in-default.not-Down c.settle.new.area c.past-all.result c.settle.result
-          (c.past-all.ensures _ (λ t. (k.seen t).here)) d.only (d.grows _ (λ t. (k.seen t).here));
+          settled_turn x h k c.choose.result e c.in_default.not-Down c.settle.new.area c.past_all.result c.settle.result
+          (c.past_all.ensures _ (λ t. (k.seen t).here)) d.only (d.grows _ (λ t. (k.seen t).here));
       less =
           let x = c.requires.given.1.2 in
           let k = c.look-here.ensures _ x.rests.0.lies x.rests.0.ascend in
-          settled_less x h k c.settle.new.area c.past-all.result c.settle.result d.only.same_limit
-          (c.past-all.ensures _ (λ t. (k.seen t).here));
+          settled_less x h k c.settle.new.area c.past_all.result c.settle.result d.only.same_limit
+          (c.past_all.ensures _ (λ t. (k.seen t).here));
       only = wider d.only refl;
     }

@@ -9,13 +9,13 @@ use Rattle.merging.proofs.Finding.{found_present}
 use Rattle.merging.proofs.Writing.{by_table}
 use Rattle.merging.proofs.descend.Goals as goal
 
-pub past-all-requires : goal.past-all-requires
-past-all-requires c = (_, c.requires.1.finds)
+pub past_all-requires : goal.past_all-requires
+past_all-requires c = (_, c.requires.1.finds)
 
 pub push-requires : goal.push-requires
 push-requires c =
     let o = c.requires.1 in
-    let e = c.past-all.ensures _ o.finds in
+    let e = c.past_all.ensures _ o.finds in
     let s = limit_small c.args.area.now in
     record {
       room = o.deep;
@@ -39,8 +39,8 @@ inside-requires-2 c = omega (arith, c.requires.1.low Field)
 pub inside-requires-3 : goal.inside-requires-3
 inside-requires-3 c = omega (arith, c.requires.1.low Bench)
 
-pub open-all-requires : goal.open-all-requires
-open-all-requires c =
+pub open_all-requires : goal.open_all-requires
+open_all-requires c =
     let o = c.requires.1 in
     let e = c.push.ensures.only.same_limit in
     by_table _ (omega (arith, o.room Archive, e)) (omega (arith, o.room Field, e)) (omega (arith, o.room Bench, e))
@@ -57,20 +57,20 @@ returns c =
           record {
             top = c.push.ensures.top;
             pile =
-                ap (drop c.push.result) (c.open-all.ensures.only.same Stack refl)
+                ap (drop c.push.result) (c.open_all.ensures.only.same Stack refl)
                 ∙ c.push.ensures.pile
                 ∙ ap (λ s. frame_words (record { class = c.args.class; ends = s; field = h.field.at; bench = h.bench.at; new = w.new }) ++ rest)
-                (c.past-all.ensures ts f);
+                (c.past_all.ensures ts f);
             at =
                 λ i. record {
                   archive = (c.inside.ensures ∙ ap (λ b. h.archive.at + cond b 1 0) (found_present (f Archive))) i;
                   field = (c.inside-2.ensures ∙ ap (λ b. h.field.at + cond b 1 0) (found_present (f Field))) i;
                   bench = (c.inside-3.ensures ∙ ap (λ b. h.bench.at + cond b 1 0) (found_present (f Bench))) i;
                 };
-            new = c.open-all.ensures.ends;
+            new = c.open_all.ensures.ends;
             words = λ t.
-                c.open-all.ensures.words t
+                c.open_all.ensures.words t
                 ∙ ap (λ l. take (3 * pick t w.new) l ++ h.name ∷ 0 ∷ 0 ∷ []) (c.push.ensures.only.same (New t) refl);
           };
-      only = also (wider c.push.ensures.only refl) c.open-all.ensures.only refl;
+      only = also (wider c.push.ensures.only refl) c.open_all.ensures.only refl;
     }

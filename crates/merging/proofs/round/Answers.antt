@@ -35,7 +35,7 @@ settle-requires g c =
     let p = c.requires.given in
     let r =
     rooted c.whole.result c.whole-2.result c.whole-3.result c.whole.ensures.first c.whole-2.ensures.first c.whole-3.ensures.first c.whole.ensures.here c.whole-2.ensures.here c.whole-3.ensures.here p.3 p.4 in
-    (_, r.finds, root_room r c.choose.result (c.choose.ensures _ r.finds) c.in-default.not-Down)
+    (_, r.finds, root_room r c.choose.result (c.choose.ensures _ r.finds) c.in_default.not-Down)
 
 pub returns-in-Down : goal.returns-in-Down
 returns-in-Down g c =
@@ -51,14 +51,14 @@ returns-in-Down g c =
       only = also (wider d.only refl) c.finish.ensures.only refl;
     }
 
-pub returns-in-default : goal.returns-in-default
-returns-in-default g c =
+pub returns-in_default : goal.returns-in_default
+returns-in_default g c =
     let d = c.settle.ensures in
     record {
       merged = λ o a b held ready.
           let r =
           rooted c.whole.result c.whole-2.result c.whole-3.result c.whole.ensures.first c.whole-2.ensures.first c.whole-3.ensures.first c.whole.ensures.here c.whole-2.ensures.here c.whole-3.ensures.here held ready in
-          root_merged r c.choose.result (c.choose.ensures _ r.finds) c.in-default.not-Down c.settle.new.area c.settle.result
+          root_merged r c.choose.result (c.choose.ensures _ r.finds) c.in_default.not-Down c.settle.new.area c.settle.result
           (d.grows _ r.finds);
       only = wider d.only refl;
     }

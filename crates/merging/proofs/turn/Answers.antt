@@ -13,8 +13,8 @@ advance-requires g c =
     let s = standing x.2 in
     record { given = (_, x); more = omega (arith, s.field_in, s.bench_in, c.if-walk-frame-2.either) }
 
-pub overflow-add-result : goal.overflow-add-result
-overflow-add-result g c = omega (arith, (standing c.requires.1.2).top_in, limit_small c.args.area.now)
+pub overflow_add-result : goal.overflow_add-result
+overflow_add-result g c = omega (arith, (standing c.requires.1.2).top_in, limit_small c.args.area.now)
 
 pub close-requires : goal.close-requires
 close-requires g c = (_, closing (topped c.requires.1 c.top-frame.ensures).2)

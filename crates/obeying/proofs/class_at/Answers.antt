@@ -10,7 +10,7 @@ one_more m c d path i l e = ap (λ k. class_at m k (drop (i + 1) path)) e ∙ sy
 pub loop-name-preserved : goal.loop-name-preserved
 loop-name-preserved g c =
     let m = g.R.Rulebook.meaning c.args.rules.now in
-    one_more m _ _ c.args.path.now c.loop-name.name-index (omega arith) c.class-under-class.ensures ∙ c.loop-name.invariant
+    one_more m _ _ c.args.path.now c.loop-name.name-index (omega arith) c.class_under-class.ensures ∙ c.loop-name.invariant
 
 pub returns : goal.returns
 returns g c =

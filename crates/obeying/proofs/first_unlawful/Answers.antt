@@ -13,21 +13,21 @@ loop-top-init g c = (
   omega arith,
   omega arith,
   omega (arith, c.if-view-eq0.false),
-  λ t s u. begun _ _ _ _ _ t s u c.if-view-eq0.false (ap (λ (e : Entry). e.children) c.record-at-root.ensures) refl,
+  λ t s u. begun _ _ _ _ _ t s u c.if-view-eq0.false (ap (λ (e : Entry). e.children) c.record_at-root.ensures) refl,
 )
 
-pub offset-bounds-names-first : goal.offset-bounds-names-first
-offset-bounds-names-first g c =
+pub offset_bounds-names-first : goal.offset_bounds-names-first
+offset_bounds-names-first g c =
     let i = c.loop-top.invariant in
     omega (arith, first_within (view (i.5 c.requires.0 c.requires.1 c.requires.2) (omega (arith, i.0))), i.3, i.4, c.requires.1.few, c.requires.1.count)
 
-pub slice-bounds-close-count : goal.slice-bounds-close-count
-slice-bounds-close-count g c =
+pub slice_bounds-close-count : goal.slice_bounds-close-count
+slice_bounds-close-count g c =
     let i = c.loop-top.invariant in
     omega (arith, first_within (view (i.5 c.requires.0 c.requires.1 c.requires.2) (omega (arith, i.0))))
 
-pub slice-bounds-close-start : goal.slice-bounds-close-start
-slice-bounds-close-start g c =
+pub slice_bounds-close-start : goal.slice_bounds-close-start
+slice_bounds-close-start g c =
     let i = c.loop-top.invariant in
     omega (arith, first_within (view (i.5 c.requires.0 c.requires.1 c.requires.2) (omega (arith, i.0))))
 
@@ -42,13 +42,13 @@ loop-top-preserved-then-level-eq0 g c =
       λ t s u. closed (view (i.5 t s u) (omega (arith, i.0))) c.if-level-eq0.true _ c.close-fault.ensures,
     )
 
-pub record-at-child-requires : goal.record-at-child-requires
-record-at-child-requires g c =
+pub record_at-child-requires : goal.record_at-child-requires
+record_at-child-requires g c =
     let i = c.loop-top.invariant in
     omega (arith, (opened (view (i.5 c.requires.0 c.requires.1 c.requires.2) (omega (arith, i.0))) c.if-level-eq0.false).more, c.requires.1.within)
 
-pub overflow-sub-top : goal.overflow-sub-top
-overflow-sub-top g c =
+pub overflow_sub-top : goal.overflow_sub-top
+overflow_sub-top g c =
     let i = c.loop-top.invariant in
     omega (arith, (opened (view (i.5 c.requires.0 c.requires.1 c.requires.2) (omega (arith, i.0))) c.if-level-eq0.false).deeper)
 
@@ -68,7 +68,7 @@ loop-top-preserved g c =
       omega (arith, i.3),
       omega (arith, x.more),
       λ t s u.
-          (opened (view (i.5 t s u) (omega (arith, i.0))) c.if-level-eq0.false).next _ _ c.record-at-child.ensures c.class-under-under.ensures
+          (opened (view (i.5 t s u) (omega (arith, i.0))) c.if-level-eq0.false).next _ _ c.record_at-child.ensures c.class_under-under.ensures
           (omega (arith, i.1, i.3, i.4, s.few, s.count))
           (omega (arith, i.0)),
     )

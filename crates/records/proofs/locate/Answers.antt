@@ -4,4 +4,4 @@ use Rattle.records.proofs.locate.Goals as goal
 
 pub returns-then-count-gt0 : goal.returns-then-count-gt0
 returns-then-count-gt0 c =
-    checked _ _ _ _ c.if-len-lt-TRAILER.false (sym c.is-sealed.ensures ∙ c.if-not-is-sealed.false) c.two-count.ensures.value (omega arith) c.walk.ensures
+    checked _ _ _ _ c.if-len-lt-TRAILER.false (sym c.is_sealed.ensures ∙ c.if-not-is_sealed.false) c.two-count.ensures.value (omega arith) c.walk.ensures

@@ -6,5 +6,5 @@ returns c =
     record {
       answer = c.locate.ensures;
       complete = complete _ _ _ c.locate.ensures;
-      faithful = faithful _ _ _ (λ i. (c.type-inv.bytes i).fits) c.locate.ensures;
+      faithful = faithful _ _ _ (λ i. (c.type_inv.bytes i).fits) c.locate.ensures;
     }

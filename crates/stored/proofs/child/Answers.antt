@@ -5,8 +5,8 @@ use Rattle.stored.proofs.Lookup.{between_children, ascends_below}
 use Rattle.stored.proofs.Placed.{placed}
 use Rattle.stored.proofs.child.Goals as goal
 
-pub overflow-add-at : goal.overflow-add-at
-overflow-add-at c = let w = node_at c.requires.1 in omega arith
+pub overflow_add-at : goal.overflow_add-at
+overflow_add-at c = let w = node_at c.requires.1 in omega arith
 
 pub seek-spot-requires : goal.seek-spot-requires
 seek-spot-requires c = (_, between_children c.requires.1 (c.next.ensures _ c.requires.1))

@@ -2,23 +2,23 @@ use Rattle.std.proofs.Common.{◌≡◌, ℕ, ◌+◌, ◌<◌, cond, ap, arith,
 use Rattle.model.specs.Trees.{nodes, marks_all}
 use Rattle.stored.proofs.Nodes.{nth, stands_nth, marks_alone, marks_from, none_left}
 use Rattle.stored.proofs.mark_count.Goals as goal
-use Rattle.stored.proofs.mark_count.Goals.{then-is-mark, else-is-mark}
+use Rattle.stored.proofs.mark_count.Goals.{then-is_mark, else-is_mark}
 
 pub loop-at-init : goal.loop-at-init
 loop-at-init c = (omega arith, λ t h. omega (arith, marks_alone t))
 
-pub is-mark-requires : goal.is-mark-requires
-is-mark-requires c =
+pub is_mark-requires : goal.is_mark-requires
+is_mark-requires c =
     let t = c.requires.0 in
     let h = c.requires.1 in
     let x = nth t c.loop-at.at h.begins.well_formed (omega (arith, h.count)) in
     (_, stands_nth h.begins x (omega (arith, h.count)))
 
-counted : (c : goal.Joined-is-mark) → c.if-is-mark.found ≡ cond c.is_mark.result 1 0 + c.loop-at.found
+counted : (c : goal.Joined-is_mark) → c.if-is_mark.found ≡ cond c.is_mark.result 1 0 + c.loop-at.found
 counted c =
-    elim c.if-is-mark.branch [
-      | then-is-mark w ↦ rw w.if-is-mark.true (omega (arith, w.found-is))
-      | else-is-mark w ↦ rw w.if-is-mark.false (omega (arith, w.found-is))
+    elim c.if-is_mark.branch [
+      | then-is_mark w ↦ rw w.if-is_mark.true (omega (arith, w.found-is))
+      | else-is_mark w ↦ rw w.if-is_mark.false (omega (arith, w.found-is))
     ]
 
 pub loop-at-preserved : goal.loop-at-preserved

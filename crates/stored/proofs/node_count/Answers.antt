@@ -2,14 +2,14 @@ use Rattle.std.proofs.Common.{arith}
 use Rattle.stored.proofs.Places.{node_at}
 use Rattle.stored.proofs.node_count.Goals as goal
 
-pub overflow-mul-result : goal.overflow-mul-result
-overflow-mul-result c = let w = node_at c.requires.1 in omega arith
+pub overflow_mul-result : goal.overflow_mul-result
+overflow_mul-result c = let w = node_at c.requires.1 in omega arith
 
-pub overflow-add-result : goal.overflow-add-result
-overflow-add-result c = let w = node_at c.requires.1 in omega arith
+pub overflow_add-result : goal.overflow_add-result
+overflow_add-result c = let w = node_at c.requires.1 in omega arith
 
-pub offset-bounds-words-at : goal.offset-bounds-words-at
-offset-bounds-words-at c = let w = node_at c.requires.1 in omega arith
+pub offset_bounds-words-at : goal.offset_bounds-words-at
+offset_bounds-words-at c = let w = node_at c.requires.1 in omega arith
 
 pub bounds-words-at : goal.bounds-words-at
 bounds-words-at c = let w = node_at c.requires.1 in omega arith

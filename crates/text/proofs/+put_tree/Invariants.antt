@@ -4,8 +4,8 @@ use Rattle.stored.proofs.Rows.{Along}
 use Rattle.text.proofs.Texts.{Going}
 use Rattle.text.proofs.+put_tree.Given as goal
 
-abbrev pub decreases-put-tree : goal.decreases-put-tree
-decreases-put-tree l = 32 - l.depth
+abbrev pub decreases-put_tree : goal.decreases-put_tree
+decreases-put_tree l = 32 - l.depth
 
 abbrev pub invariant-loop-child : goal.invariant-loop-child
 invariant-loop-child l =

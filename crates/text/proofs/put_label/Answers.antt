@@ -3,19 +3,19 @@ use Rattle.text.proofs.Laying.{name_short}
 use Rattle.text.proofs.Texts.{labelled}
 use Rattle.text.proofs.put_label.Goals as goal
 
-pub put-number-end-requires : goal.put-number-end-requires
-put-number-end-requires c = omega (arith, c.put-unless-start.ensures.short, name_short c.name.result c.name.type-inv)
+pub put_number-end-requires : goal.put_number-end-requires
+put_number-end-requires c = omega (arith, c.put_unless-start.ensures.short, name_short c.name.result c.name.type_inv)
 
-pub put-unless-requires : goal.put-unless-requires
-put-unless-requires c =
-    omega (arith, c.put-unless-start.ensures.short, name_short c.name.result c.name.type-inv, c.put-number-end.ensures.ends)
+pub put_unless-requires : goal.put_unless-requires
+put_unless-requires c =
+    omega (arith, c.put_unless-start.ensures.short, name_short c.name.result c.name.type_inv, c.put_number-end.ensures.ends)
 
 pub returns : goal.returns
 returns c =
     record {
       laid = λ s h.
-          labelled c.args.first c.is-bare.result s.name s.tree (c.name.ensures s h) (c.is-bare.ensures s h)
-          c.put-unless-start.ensures.laid c.put-number-end.ensures c.put-unless.ensures.laid;
+          labelled c.args.first c.is_bare.result s.name s.tree (c.name.ensures s h) (c.is_bare.ensures s h)
+          c.put_unless-start.ensures.laid c.put_number-end.ensures c.put_unless.ensures.laid;
       short =
-          omega (arith, c.put-unless-start.ensures.short, name_short c.name.result c.name.type-inv, c.put-number-end.ensures.ends, c.put-unless.ensures.short);
+          omega (arith, c.put_unless-start.ensures.short, name_short c.name.result c.name.type_inv, c.put_number-end.ensures.ends, c.put_unless.ensures.short);
     }

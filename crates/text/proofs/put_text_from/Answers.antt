@@ -2,8 +2,8 @@ use Rattle.std.proofs.Common.{arith}
 use Rattle.text.proofs.Texts.{rooted, text_missing}
 use Rattle.text.proofs.put_text_from.Goals as goal
 
-pub put-tree-requires : goal.put-tree-requires
-put-tree-requires c =
+pub put_tree-requires : goal.put_tree-requires
+put_tree-requires c =
     let h = c.requires.held.1 in
     record {
       stored = _;
@@ -23,6 +23,6 @@ pub returns-else-count-eq0 : goal.returns-else-count-eq0
 returns-else-count-eq0 c =
     let h = c.requires.held.1 in
     record {
-      laid = λ t i. c.put-tree.ensures.laid _ (rooted i c.if-count-eq0.false);
-      short = omega (arith, h.few, c.put-tree.ensures.short _ (rooted h c.if-count-eq0.false));
+      laid = λ t i. c.put_tree.ensures.laid _ (rooted i c.if-count-eq0.false);
+      short = omega (arith, h.few, c.put_tree.ensures.short _ (rooted h c.if-count-eq0.false));
     }

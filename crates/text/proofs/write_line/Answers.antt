@@ -7,11 +7,11 @@ pub returns : goal.returns
 returns c =
     record {
       answer =
-          answered (line c.args.refusal) c.args.out.now c.if-length-out.out c.put-line-length.result c.answer.result c.put-line-length.ensures.ends c.if-length-out.auto.out
+          answered (line c.args.refusal) c.args.out.now c.if-length-out.out c.put_line-length.result c.answer.result c.put_line-length.ensures.laid.ends c.if-length-out.auto.out
           c.answer.ensures;
       output =
           elim c.if-length-out.branch [
-            | then-length-out w ↦ written _ c.put-line-length.result c.put-line-length.ensures.ends w.if-length-out.true w.put-line.ensures w.out-is
-            | else-length-out w ↦ unwritten (line c.args.refusal) _ _ c.put-line-length.result c.put-line-length.ensures.ends w.if-length-out.false w.out-is
+            | then-length-out w ↦ written _ c.put_line-length.result c.put_line-length.ensures.laid.ends w.if-length-out.true w.put_line.ensures.laid w.out-is
+            | else-length-out w ↦ unwritten (line c.args.refusal) _ _ c.put_line-length.result c.put_line-length.ensures.laid.ends w.if-length-out.false w.out-is
           ];
     }

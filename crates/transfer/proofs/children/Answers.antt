@@ -3,14 +3,14 @@ use Rattle.stored.proofs.Places.{node_at, nodes_some}
 use Rattle.stored.proofs.Rows.{start, ahead, step, done}
 use Rattle.transfer.proofs.children.Goals as goal
 
-pub overflow-add-end : goal.overflow-add-end
-overflow-add-end c = let w = node_at c.requires.1 in omega (arith, c.node-count.ensures _ c.requires.1)
+pub overflow_add-end : goal.overflow_add-end
+overflow_add-end c = let w = node_at c.requires.1 in omega (arith, c.node_count.ensures _ c.requires.1)
 
-pub overflow-add-pos : goal.overflow-add-pos
-overflow-add-pos c = let w = node_at c.requires.1 in omega (arith, nodes_some c.requires.0.tree c.requires.0.is_present)
+pub overflow_add-pos : goal.overflow_add-pos
+overflow_add-pos c = let w = node_at c.requires.1 in omega (arith, nodes_some c.requires.0.tree c.requires.0.is_present)
 
 pub loop-pos-init : goal.loop-pos-init
-loop-pos-init c = (omega arith, λ s h. start h (omega (arith, c.node-count.ensures s h)) (omega arith))
+loop-pos-init c = (omega arith, λ s h. start h (omega (arith, c.node_count.ensures s h)) (omega arith))
 
 pub next-pos-requires : goal.next-pos-requires
 next-pos-requires c = let a = ahead (c.loop-pos.invariant.1 _ c.requires.1) c.loop-pos-test.true in (_, a.here)

@@ -5,8 +5,8 @@ use Rattle.transfer.proofs.put_records.Goals as goal
 pub loop-i-init : goal.loop-i-init
 loop-i-init c = (omega arith, λ t h. wrote_none h _)
 
-pub record-of-e-requires : goal.record-of-e-requires
-record-of-e-requires c =
+pub record_of-e-requires : goal.record_of-e-requires
+record_of-e-requires c =
     let x = here c.requires.held.1 _ (omega (arith, c.loop-i.invariant.0, c.loop-i-test.true)) in
     (x.stored, x.stands)
 
@@ -15,7 +15,7 @@ loop-i-preserved c = (
   omega (arith, c.loop-i.invariant.0),
   λ t h.
       let x = here h _ (omega (arith, c.loop-i.invariant.0, c.loop-i-test.true)) in
-      wrote_more _ _ x c.loop-i-test.true (c.record-of-e.ensures _ x.stands) (c.loop-i.invariant.1 t h) c.put-record.ensures,
+      wrote_more _ _ x c.loop-i-test.true (c.record_of-e.ensures _ x.stands) (c.loop-i.invariant.1 t h) c.put_record.ensures,
 )
 
 pub returns : goal.returns

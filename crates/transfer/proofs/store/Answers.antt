@@ -9,27 +9,27 @@ loop-i-init c = (omega arith, λ t s. nothing_yet s _)
 pub past-end-requires : goal.past-end-requires
 past-end-requires c =
     let s = c.requires.shown.1 in
-    let b = turn s _ _ c.loop-i-test.true c.loop-i.invariant.0 c.record-at-e.ensures (c.loop-i.invariant.1 _ s) in
+    let b = turn s _ _ c.loop-i-test.true c.loop-i.invariant.0 c.record_at-e.ensures (c.loop-i.invariant.1 _ s) in
     (below b.tree, b.siblings)
 
-pub overflow-sub-end : goal.overflow-sub-end
-overflow-sub-end c =
+pub overflow_sub-end : goal.overflow_sub-end
+overflow_sub-end c =
     let s = c.requires.shown.1 in
-    let b = turn s _ _ c.loop-i-test.true c.loop-i.invariant.0 c.record-at-e.ensures (c.loop-i.invariant.1 _ s) in
+    let b = turn s _ _ c.loop-i-test.true c.loop-i.invariant.0 c.record_at-e.ensures (c.loop-i.invariant.1 _ s) in
     omega (arith, c.past-end.ensures _ b.siblings)
 
-pub overflow-cast-end : goal.overflow-cast-end
-overflow-cast-end c =
+pub overflow_cast-end : goal.overflow_cast-end
+overflow_cast-end c =
     let s = c.requires.shown.1 in
-    let b = turn s _ _ c.loop-i-test.true c.loop-i.invariant.0 c.record-at-e.ensures (c.loop-i.invariant.1 _ s) in
+    let b = turn s _ _ c.loop-i-test.true c.loop-i.invariant.0 c.record_at-e.ensures (c.loop-i.invariant.1 _ s) in
     omega (arith, c.past-end.ensures _ b.siblings, b.few)
 
 pub loop-i-preserved : goal.loop-i-preserved
 loop-i-preserved c = (
   omega (arith, c.loop-i.invariant.0),
   λ t s.
-      let b = turn s _ _ c.loop-i-test.true c.loop-i.invariant.0 c.record-at-e.ensures (c.loop-i.invariant.1 t s) in
-      b.again _ _ (c.past-end.ensures _ b.siblings) c.put-node.ensures,
+      let b = turn s _ _ c.loop-i-test.true c.loop-i.invariant.0 c.record_at-e.ensures (c.loop-i.invariant.1 t s) in
+      b.again _ _ (c.past-end.ensures _ b.siblings) c.put_node.ensures,
 )
 
 pub returns : goal.returns

@@ -9,7 +9,7 @@ returns-then-out-size c =
     record {
       answer = λ t h. ap Err c.refuse.ensures ∙ told_short _ _ _ (size_of h c.args.kind) c.if-out-size.true;
       after = λ t h. left_short _ _ _ (size_of h c.args.kind) c.if-out-size.true;
-      narrow = λ t. narrow (λ i. (c.type-inv.words i).fits);
+      narrow = λ t. narrow (λ i. (c.type_inv.words i).fits);
     }
 
 pub returns : goal.returns
@@ -19,6 +19,6 @@ returns c =
       after = λ t h.
           left_fits _ _ _ (size_of h c.args.kind) c.if-out-size.false _
           (file_written t c.args.kind c.args.count _ c.args.out.now _ _ h.count
-          (ap (λ k. entry (8 * c.args.count + 8) c.args.count k version) c.code.ensures) c.put-record.ensures (c.put-records.ensures t h));
-      narrow = λ t. narrow (λ i. (c.type-inv.words i).fits);
+          (ap (λ k. entry (8 * c.args.count + 8) c.args.count k version) c.code.ensures) c.put_record.ensures (c.put_records.ensures t h));
+      narrow = λ t. narrow (λ i. (c.type_inv.words i).fits);
     }

@@ -3,8 +3,8 @@ use Rattle.stored.proofs.Lookup.{between_children}
 use Rattle.editing.proofs.Carried.{near, few}
 use Rattle.editing.proofs.gathering.gather.Goals as goal
 
-pub overflow-add-at : goal.overflow-add-at
-overflow-add-at c = omega (arith, near _ _ c.requires.stands.1)
+pub overflow_add-at : goal.overflow_add-at
+overflow_add-at c = omega (arith, near _ _ c.requires.stands.1)
 
 pub list-requires : goal.list-requires
 list-requires c =

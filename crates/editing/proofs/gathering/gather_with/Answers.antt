@@ -13,8 +13,8 @@ use Rattle.editing.proofs.Siblings.{names_with}
 use Rattle.editing.proofs.Parting.{between_smaller, between_larger, parts_few, smaller_within}
 use Rattle.editing.proofs.gathering.gather_with.Goals as goal
 
-pub overflow-add-at : goal.overflow-add-at
-overflow-add-at c = omega (arith, near _ _ c.requires.1)
+pub overflow_add-at : goal.overflow_add-at
+overflow_add-at c = omega (arith, near _ _ c.requires.1)
 
 pub list-k-requires : goal.list-k-requires
 list-k-requires c =
@@ -32,8 +32,8 @@ set-requires c =
     let p = c.split-parts.ensures _ h in
     omega (arith, c.list-k.ensures.many _ (between_smaller h p), parts_few h p, few c.args.area.now (Tree c.args.table) tt h, c.list-k.ensures.only.same_limit)
 
-pub overflow-add-k : goal.overflow-add-k
-overflow-add-k c =
+pub overflow_add-k : goal.overflow_add-k
+overflow_add-k c =
     let h = c.requires.1 in
     let p = c.split-parts.ensures _ h in
     omega (arith, c.list-k.ensures.many _ (between_smaller h p), parts_few h p, near c.args.area.now (Tree c.args.table) h)

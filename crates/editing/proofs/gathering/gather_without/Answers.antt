@@ -11,8 +11,8 @@ use Rattle.editing.proofs.Siblings.{names_without}
 use Rattle.editing.proofs.Parting.{between_smaller, between_larger, parts_few, smaller_within}
 use Rattle.editing.proofs.gathering.gather_without.Goals as goal
 
-pub overflow-add-at : goal.overflow-add-at
-overflow-add-at c = omega (arith, near _ _ c.requires.1)
+pub overflow_add-at : goal.overflow_add-at
+overflow_add-at c = omega (arith, near _ _ c.requires.1)
 
 pub list-k-requires : goal.list-k-requires
 list-k-requires c =

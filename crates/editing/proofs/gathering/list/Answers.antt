@@ -20,8 +20,8 @@ name-here-requires c = let a = ahead (c.loop-at.invariant.1 _ c.requires.row.1) 
 pub set-requires : goal.set-requires
 set-requires c = omega (arith, c.loop-at.invariant.0, c.loop-at.invariant.2.same_limit)
 
-pub overflow-add-i : goal.overflow-add-i
-overflow-add-i c = omega (arith, c.loop-at.invariant.0, limit_small c.args.area.now)
+pub overflow_add-i : goal.overflow_add-i
+overflow_add-i c = omega (arith, c.loop-at.invariant.0, limit_small c.args.area.now)
 
 pub next-at-requires : goal.next-at-requires
 next-at-requires c =
@@ -53,6 +53,6 @@ pub returns : goal.returns
 returns c =
     record {
       many = λ f b. let w = done (c.loop-at.invariant.1 f b) (omega arith) in omega (arith, w.count);
-      front = λ f b. let w = done (c.loop-at.invariant.1 f b) (omega arith) in sym (append-nil _) ∙ w.so-far;
+      front = λ f b. let w = done (c.loop-at.invariant.1 f b) (omega arith) in sym (append-nil _) ∙ w.so_far;
       only = c.loop-at.invariant.2;
     }

@@ -21,12 +21,12 @@ open-requires g c =
       within = omega arith;
     }
 
-pub returns-in-default : goal.returns-in-default
-returns-in-default g c =
+pub returns-in_default : goal.returns-in_default
+returns-in_default g c =
     record {
       answer = λ t h u.
           let p = some_present t _ h.count c.if-count-eq0.false in
-          sym (root_refused _ _ t 0 p u (sym (c.in-default.ensures.answer _ (root_Stands h.begins p))));
+          sym (root_refused _ _ t 0 p u (sym (c.in_default.ensures.answer _ (root_Stands h.begins p))));
       only = c.open.ensures.only;
     }
 
@@ -88,8 +88,8 @@ open-requires-else-at-end g c =
       within = omega (arith, c.loop-top.invariant.1, c.loop-top.invariant.3.same_limit, c.open.ensures.only.same_limit);
     }
 
-pub returns-in-default-open : goal.returns-in-default-open
-returns-in-default-open g c =
+pub returns-in_default-open : goal.returns-in_default-open
+returns-in_default-open g c =
     let tree = Tree c.args.table in
     let n = view_length c.loop-top.area Stack in
     let l : c.loop-top.top < length (view c.loop-top.area Stack) = omega (arith, c.loop-top.invariant.3.same_limit, c.open.ensures.only.same_limit) in
@@ -97,13 +97,13 @@ returns-in-default-open g c =
       answer = λ t i u.
           let h = carried_holds (c.open.ensures.only.same tree refl) i in
           let k = comes_to (c.loop-top.invariant.2 t h u) l _ c.get-end.ensures c.if-at-end.false in
-          let e = asked k _ _ _ (c.name.ensures _ k.here) c.get-parent.ensures c.class-under-class.ensures.under in
-          sym (refused k _ e (sym (c.in-default-open.ensures.answer _ k.here)));
+          let e = asked k _ _ _ (c.name.ensures _ k.here) c.get-parent.ensures c.class_under-class.ensures.under in
+          sym (refused k _ e (sym (c.in_default-open.ensures.answer _ k.here)));
       only = also (also c.open.ensures.only c.loop-top.invariant.3 refl) c.open-else-at-end.ensures.only refl;
     }
 
-pub overflow-add-at : goal.overflow-add-at
-overflow-add-at g c =
+pub overflow_add-at : goal.overflow_add-at
+overflow_add-at g c =
     let h = carried_holds (c.open.ensures.only.same (Tree c.args.table) refl) c.requires.1 in
     let n = view_length c.loop-top.area Stack in
     let l : c.loop-top.top < length (view c.loop-top.area Stack) = omega (arith, c.loop-top.invariant.3.same_limit, c.open.ensures.only.same_limit) in
@@ -133,7 +133,7 @@ loop-top-preserved g c =
       omega (arith, w.lower, c.loop-top.invariant.1),
       λ t h u.
           let k = comes_to (c.loop-top.invariant.2 t h u) l _ c.get-end.ensures c.if-at-end.false in
-          let e = asked k _ _ _ (c.name.ensures _ k.here) c.get-parent.ensures c.class-under-class.ensures.under in
+          let e = asked k _ _ _ (c.name.ensures _ k.here) c.get-parent.ensures c.class_under-class.ensures.under in
           rw (o.only.same tree refl) (opened k _ _ _ e (sym (o.answer _ k.here)) (o.opened _ c.in-Some-open.lower k.here refl)),
       also c.loop-top.invariant.3 o.only refl,
     )

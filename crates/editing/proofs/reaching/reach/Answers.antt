@@ -13,10 +13,10 @@ loop-names-init c t h u = sets_out c.args.path.now h (some_present t _ h.count c
 pub child-requires : goal.child-requires
 child-requires c = (_, (c.loop-names.invariant c.requires.0 c.requires.1 c.requires.2).here)
 
-pub returns-in-default : goal.returns-in-default
-returns-in-default c t h u =
+pub returns-in_default : goal.returns-in_default
+returns-in_default c t h u =
     let a = c.loop-names.invariant t h u in
-    reaches a (no_further a _ (omega arith) refl (c.in-default.ensures _ a.here))
+    reaches a (no_further a _ (omega arith) refl (c.in_default.ensures _ a.here))
 
 pub loop-names-preserved : goal.loop-names-preserved
 loop-names-preserved c t h u =

@@ -5,8 +5,8 @@ use Rattle.area.proofs.Laws.{view_length, limit_small, paste_front}
 use Rattle.editing.proofs.Grafts.{held_words, held_from}
 use Rattle.editing.proofs.splicing.adopt.Goals as goal
 
-pub overflow-mul-count : goal.overflow-mul-count
-overflow-mul-count c = omega (arith, c.requires, limit_small c.args.area.now)
+pub overflow_mul-count : goal.overflow_mul-count
+overflow_mul-count c = omega (arith, c.requires, limit_small c.args.area.now)
 
 pub returns : goal.returns
 returns c =

@@ -11,17 +11,17 @@ use Rattle.editing.proofs.Parting.{smaller_within}
 use Rattle.editing.proofs.Grafts.{counted_anew}
 use Rattle.editing.proofs.splicing.descend.Goals as goal
 
-pub overflow-sub-parts : goal.overflow-sub-parts
-overflow-sub-parts c = omega (arith, (c.split-parts.ensures _ c.requires.1).up_to)
+pub overflow_sub-parts : goal.overflow_sub-parts
+overflow_sub-parts c = omega (arith, (c.split-parts.ensures _ c.requires.1).up_to)
 
-pub overflow-mul-at : goal.overflow-mul-at
-overflow-mul-at c = omega (arith, near c.args.area.now (Tree c.args.table) c.requires.1)
+pub overflow_mul-at : goal.overflow_mul-at
+overflow_mul-at c = omega (arith, near c.args.area.now (Tree c.args.table) c.requires.1)
 
-pub overflow-mul-at-2 : goal.overflow-mul-at-2
-overflow-mul-at-2 c = omega (arith, near c.args.area.now (Tree c.args.table) c.requires.1)
+pub overflow_mul-at-2 : goal.overflow_mul-at-2
+overflow_mul-at-2 c = omega (arith, near c.args.area.now (Tree c.args.table) c.requires.1)
 
-pub overflow-mul-parts : goal.overflow-mul-parts
-overflow-mul-parts c =
+pub overflow_mul-parts : goal.overflow_mul-parts
+overflow_mul-parts c =
     let p = c.split-parts.ensures _ c.requires.1 in
     omega (arith, near c.args.area.now (Tree c.args.table) c.requires.1, smaller_within c.requires.1 p)
 
@@ -32,19 +32,19 @@ copy-requires c =
     let l = within_limit c.args.area.now (Tree c.args.table) refl c.requires.1 in
     record { source = omega (arith, p.up_to); target = omega (arith, p.up_to) }
 
-pub overflow-mul-at-3 : goal.overflow-mul-at-3
-overflow-mul-at-3 c = omega (arith, near c.args.area.now (Tree c.args.table) c.requires.1)
+pub overflow_mul-at-3 : goal.overflow_mul-at-3
+overflow_mul-at-3 c = omega (arith, near c.args.area.now (Tree c.args.table) c.requires.1)
 
-pub overflow-add-at : goal.overflow-add-at
-overflow-add-at c = omega (arith, near c.args.area.now (Tree c.args.table) c.requires.1)
+pub overflow_add-at : goal.overflow_add-at
+overflow_add-at c = omega (arith, near c.args.area.now (Tree c.args.table) c.requires.1)
 
-pub overflow-add-parts : goal.overflow-add-parts
-overflow-add-parts c =
+pub overflow_add-parts : goal.overflow_add-parts
+overflow_add-parts c =
     let p = c.split-parts.ensures _ c.requires.1 in
     omega (arith, near c.args.area.now (Tree c.args.table) c.requires.1, p.end, c.requires.3)
 
-pub overflow-cast-parts : goal.overflow-cast-parts
-overflow-cast-parts c =
+pub overflow_cast-parts : goal.overflow_cast-parts
+overflow_cast-parts c =
     let p = c.split-parts.ensures _ c.requires.1 in
     omega (arith, near c.args.area.now (Tree c.args.table) c.requires.1, p.end, c.requires.3)
 

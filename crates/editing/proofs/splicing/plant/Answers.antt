@@ -5,11 +5,11 @@ use Rattle.area.proofs.Laws.{again, view_length, limit_small}
 use Rattle.editing.proofs.Grafts.{offer_long, planted, nothing_planted}
 use Rattle.editing.proofs.splicing.plant.Goals as goal
 
-pub overflow-mul-at : goal.overflow-mul-at
-overflow-mul-at c = omega (arith, c.requires.room, limit_small c.args.area.now)
+pub overflow_mul-at : goal.overflow_mul-at
+overflow_mul-at c = omega (arith, c.requires.room, limit_small c.args.area.now)
 
-pub overflow-mul-grown : goal.overflow-mul-grown
-overflow-mul-grown c = omega (arith, c.requires.room, limit_small c.args.area.now)
+pub overflow_mul-grown : goal.overflow_mul-grown
+overflow_mul-grown c = omega (arith, c.requires.room, limit_small c.args.area.now)
 
 pub copy-requires : goal.copy-requires
 copy-requires c =
@@ -19,8 +19,8 @@ copy-requires c =
       target = omega (arith, c.requires.room);
     }
 
-pub overflow-mul-at-then-grown-gt0 : goal.overflow-mul-at-then-grown-gt0
-overflow-mul-at-then-grown-gt0 c = omega (arith, c.requires.room, limit_small c.args.area.now)
+pub overflow_mul-at-then-grown-gt0 : goal.overflow_mul-at-then-grown-gt0
+overflow_mul-at-then-grown-gt0 c = omega (arith, c.requires.room, limit_small c.args.area.now)
 
 pub set-requires : goal.set-requires
 set-requires c = omega (arith, c.requires.room, c.copy.ensures.only.same_limit)

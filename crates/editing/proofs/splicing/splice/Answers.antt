@@ -10,13 +10,13 @@ use Rattle.editing.proofs.Descent.{sets_off, stands, few_gone, steps, lands, new
 use Rattle.editing.proofs.splicing.splice.Goals as goal
 
 pub loop-name-init : goal.loop-name-init
-loop-name-init c = (λ t u s g. sets_off s c.nodes-at-gone.result g (view c.args.area.now (New c.args.table)), none _ _)
+loop-name-init c = (λ t u s g. sets_off s c.nodes_at-gone.result g (view c.args.area.now (New c.args.table)), none _ _)
 
 pub descend-at-requires : goal.descend-at-requires
 descend-at-requires c =
     let s = c.requires.given.2 in
     let a = c.args.area.now in
-    let g = c.nodes-at-gone.ensures _ (carried_holds c.part.ensures.words s.holds) s.unmarked in
+    let g = c.nodes_at-gone.ensures _ (carried_holds c.part.ensures.words s.holds) s.unmarked in
     let d = c.loop-name.invariant.0 _ _ s g in
     let l : c.loop-name.name-index < length c.args.path.now = omega arith in
     let e = c.loop-name.invariant.1.same (Tree c.args.table) refl in
@@ -35,56 +35,56 @@ loop-name-preserved c = (
 pub plant-requires : goal.plant-requires
 plant-requires c =
     let s = c.requires.given.2 in
-    let g = c.nodes-at-gone.ensures _ (carried_holds c.part.ensures.words s.holds) s.unmarked in
+    let g = c.nodes_at-gone.ensures _ (carried_holds c.part.ensures.words s.holds) s.unmarked in
     let d = lands (c.loop-name.invariant.0 _ _ s g) (omega arith) in
     record {
       offer = (_, carried_offer (c.loop-name.invariant.1.same c.args.source c.requires.apart) s.offer);
       room = omega (arith, d.within, new_count s _ g, s.fits, c.loop-name.invariant.1.same_limit);
     }
 
-pub overflow-add-behind : goal.overflow-add-behind
-overflow-add-behind c =
+pub overflow_add-behind : goal.overflow_add-behind
+overflow_add-behind c =
     let s = c.requires.given.2 in
-    let g = c.nodes-at-gone.ensures _ (carried_holds c.part.ensures.words s.holds) s.unmarked in
+    let g = c.nodes_at-gone.ensures _ (carried_holds c.part.ensures.words s.holds) s.unmarked in
     let d = lands (c.loop-name.invariant.0 _ _ s g) (omega arith) in
     omega (arith, d.within)
 
-pub overflow-mul-behind : goal.overflow-mul-behind
-overflow-mul-behind c =
+pub overflow_mul-behind : goal.overflow_mul-behind
+overflow_mul-behind c =
     let s = c.requires.given.2 in
-    let g = c.nodes-at-gone.ensures _ (carried_holds c.part.ensures.words s.holds) s.unmarked in
+    let g = c.nodes_at-gone.ensures _ (carried_holds c.part.ensures.words s.holds) s.unmarked in
     let d = lands (c.loop-name.invariant.0 _ _ s g) (omega arith) in
     omega (arith, d.within, s.holds.count, s.holds.few)
 
-pub overflow-add-at : goal.overflow-add-at
-overflow-add-at c =
+pub overflow_add-at : goal.overflow_add-at
+overflow_add-at c =
     let s = c.requires.given.2 in
-    let g = c.nodes-at-gone.ensures _ (carried_holds c.part.ensures.words s.holds) s.unmarked in
+    let g = c.nodes_at-gone.ensures _ (carried_holds c.part.ensures.words s.holds) s.unmarked in
     let d = lands (c.loop-name.invariant.0 _ _ s g) (omega arith) in
     omega (arith, d.within, new_count s _ g, s.fits, limit_small c.args.area.now)
 
-pub overflow-mul-at : goal.overflow-mul-at
-overflow-mul-at c =
+pub overflow_mul-at : goal.overflow_mul-at
+overflow_mul-at c =
     let s = c.requires.given.2 in
-    let g = c.nodes-at-gone.ensures _ (carried_holds c.part.ensures.words s.holds) s.unmarked in
+    let g = c.nodes_at-gone.ensures _ (carried_holds c.part.ensures.words s.holds) s.unmarked in
     let d = lands (c.loop-name.invariant.0 _ _ s g) (omega arith) in
     omega (arith, d.within, new_count s _ g, s.fits, limit_small c.args.area.now)
 
-pub overflow-sub-count : goal.overflow-sub-count
-overflow-sub-count c =
+pub overflow_sub-count : goal.overflow_sub-count
+overflow_sub-count c =
     let s = c.requires.given.2 in
-    let g = c.nodes-at-gone.ensures _ (carried_holds c.part.ensures.words s.holds) s.unmarked in
+    let g = c.nodes_at-gone.ensures _ (carried_holds c.part.ensures.words s.holds) s.unmarked in
     let d = lands (c.loop-name.invariant.0 _ _ s g) (omega arith) in
     omega (arith, d.within)
 
-pub overflow-mul-count : goal.overflow-mul-count
-overflow-mul-count c = let s = c.requires.given.2 in omega (arith, s.holds.count, s.holds.few)
+pub overflow_mul-count : goal.overflow_mul-count
+overflow_mul-count c = let s = c.requires.given.2 in omega (arith, s.holds.count, s.holds.few)
 
 pub copy-requires : goal.copy-requires
 copy-requires c =
     let s = c.requires.given.2 in
     let a = c.args.area.now in
-    let g = c.nodes-at-gone.ensures _ (carried_holds c.part.ensures.words s.holds) s.unmarked in
+    let g = c.nodes_at-gone.ensures _ (carried_holds c.part.ensures.words s.holds) s.unmarked in
     let d = lands (c.loop-name.invariant.0 _ _ s g) (omega arith) in
     let same = (again c.loop-name.invariant.1 c.plant.ensures.only).same_limit in
     record {
@@ -92,15 +92,15 @@ copy-requires c =
       target = omega (arith, d.within, new_count s _ g, s.fits);
     }
 
-pub overflow-add-result : goal.overflow-add-result
-overflow-add-result c =
+pub overflow_add-result : goal.overflow_add-result
+overflow_add-result c =
     let s = c.requires.given.2 in
     omega (arith, s.holds.count, s.holds.few, offer_long s.offer, short c.args.area.now c.args.source)
 
-pub overflow-sub-result : goal.overflow-sub-result
-overflow-sub-result c =
+pub overflow_sub-result : goal.overflow_sub-result
+overflow_sub-result c =
     let s = c.requires.given.2 in
-    let g = c.nodes-at-gone.ensures _ (carried_holds c.part.ensures.words s.holds) s.unmarked in
+    let g = c.nodes_at-gone.ensures _ (carried_holds c.part.ensures.words s.holds) s.unmarked in
     omega (arith, new_count s _ g)
 
 pub returns : goal.returns
@@ -111,16 +111,16 @@ returns c =
     let until = again c.loop-name.invariant.1 c.plant.ensures.only in
     record {
       number = λ t u s.
-          let g = c.nodes-at-gone.ensures t (carried_holds c.part.ensures.words s.holds) s.unmarked in
+          let g = c.nodes_at-gone.ensures t (carried_holds c.part.ensures.words s.holds) s.unmarked in
           omega (arith, new_count s _ g);
       words = λ t u s.
-          let g = c.nodes-at-gone.ensures t (carried_holds c.part.ensures.words s.holds) s.unmarked in
+          let g = c.nodes_at-gone.ensures t (carried_holds c.part.ensures.words s.holds) s.unmarked in
           let d = lands (c.loop-name.invariant.0 t u s g) (omega arith) in
           let at = c.loop-name.at in
-          let behind = at + c.nodes-at-gone.result in
+          let behind = at + c.nodes_at-gone.result in
           let n = 3 * (c.args.count - behind) in
           let i = 3 * (at + c.args.grown) in
-          let r = 3 * (c.args.count + c.args.grown - c.nodes-at-gone.result) in
+          let r = 3 * (c.args.count + c.args.grown - c.nodes_at-gone.result) in
           let o = carried_offer (c.loop-name.invariant.1.same c.args.source c.requires.apart) s.offer in
           let size = view_length a tree in
           ap (take r) (c.copy.ensures.here ∙ ap (λ ws. paste (view c.plant.new.area new) i (drop (3 * behind) ws) n) (until.same tree refl))

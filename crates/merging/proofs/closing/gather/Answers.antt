@@ -5,8 +5,8 @@ use Rattle.area.proofs.Laws.{none, also, view_length, limit_small}
 use Rattle.merging.proofs.Gathering.{begun, ahead, gathered, sized, taken}
 use Rattle.merging.proofs.closing.gather.Goals as goal
 
-pub overflow-add-pos : goal.overflow-add-pos
-overflow-add-pos c =
+pub overflow_add-pos : goal.overflow_add-pos
+overflow_add-pos c =
     let a = c.args.area.now in
     omega (arith, c.requires.1.room, c.requires.1.ends, view_length a (New c.args.t), limit_small a)
 
@@ -15,8 +15,8 @@ loop-pos-init c =
     let a = c.args.area.now in
     ((λ f h. begun (view a Names) h (omega (arith, view_length a (New c.args.t), view_length a Names))), none _ _)
 
-pub overflow-mul-pos : goal.overflow-mul-pos
-overflow-mul-pos c =
+pub overflow_mul-pos : goal.overflow_mul-pos
+overflow_mul-pos c =
     let a = c.args.area.now in
     omega (arith, c.requires.1.room, view_length a (New c.args.t), limit_small a, c.loop-pos.invariant.1.same_limit)
 
@@ -30,19 +30,19 @@ set-requires c =
     let w = ahead (c.loop-pos.invariant.0 _ c.requires.1) c.loop-pos-test.true in
     omega (arith, w.spare, view_length c.loop-pos.area Names)
 
-pub overflow-add-count : goal.overflow-add-count
-overflow-add-count c =
+pub overflow_add-count : goal.overflow_add-count
+overflow_add-count c =
     let w = ahead (c.loop-pos.invariant.0 _ c.requires.1) c.loop-pos-test.true in
     let a = c.loop-pos.area in
     omega (arith, w.spare, view_length a Names, limit_small a)
 
-pub overflow-mul-pos-in-loop-pos : goal.overflow-mul-pos-in-loop-pos
-overflow-mul-pos-in-loop-pos c =
+pub overflow_mul-pos-in-loop-pos : goal.overflow_mul-pos-in-loop-pos
+overflow_mul-pos-in-loop-pos c =
     let a = c.args.area.now in
     omega (arith, c.requires.1.room, view_length a (New c.args.t), limit_small a, c.loop-pos.invariant.1.same_limit)
 
-pub overflow-add-pos-in-loop-pos : goal.overflow-add-pos-in-loop-pos
-overflow-add-pos-in-loop-pos c =
+pub overflow_add-pos-in-loop-pos : goal.overflow_add-pos-in-loop-pos
+overflow_add-pos-in-loop-pos c =
     let a = c.args.area.now in
     omega (arith, c.requires.1.room, view_length a (New c.args.t), limit_small a, c.loop-pos.invariant.1.same_limit)
 
@@ -51,8 +51,8 @@ get-requires c =
     let a = c.args.area.now in
     omega (arith, c.requires.1.room, view_length a (New c.args.t), limit_small a, c.loop-pos.invariant.1.same_limit, c.set.ensures.only.same_limit)
 
-pub overflow-add-pos-in-loop-pos-2 : goal.overflow-add-pos-in-loop-pos-2
-overflow-add-pos-in-loop-pos-2 c =
+pub overflow_add-pos-in-loop-pos-2 : goal.overflow_add-pos-in-loop-pos-2
+overflow_add-pos-in-loop-pos-2 c =
     let a = c.args.area.now in
     let w = ahead (c.loop-pos.invariant.0 _ c.requires.1) c.loop-pos-test.true in
     let s = sized w _ _ c.get.ensures (c.set.ensures.only.same (New c.args.t) refl) in

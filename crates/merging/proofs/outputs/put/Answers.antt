@@ -7,11 +7,11 @@ use Rattle.merging.proofs.Finding.{carried, stood, nothing}
 use Rattle.merging.proofs.Writing.{copied, grown_none, grown_as}
 use Rattle.merging.proofs.outputs.put.Goals as goal
 
-pub node-count-count-requires : goal.node-count-count-requires
-node-count-count-requires c = (_, carried c.part.ensures.words (stood c.requires.2 c.if-x.true).here)
+pub node_count-count-requires : goal.node_count-count-requires
+node_count-count-requires c = (_, carried c.part.ensures.words (stood c.requires.2 c.if-x.true).here)
 
-pub overflow-mul-x : goal.overflow-mul-x
-overflow-mul-x c =
+pub overflow_mul-x : goal.overflow_mul-x
+overflow_mul-x c =
     let a = c.args.area.now in
     omega (arith, (node_at (stood c.requires.2 c.if-x.true).here).whole, view_length a (Old c.args.from), limit_small a)
 
@@ -19,7 +19,7 @@ pub copy-requires : goal.copy-requires
 copy-requires c =
     let a = c.args.area.now in
     let h = (stood c.requires.2 c.if-x.true).here in
-    let n = c.node-count-count.ensures _ (carried c.part.ensures.words h) in
+    let n = c.node_count-count.ensures _ (carried c.part.ensures.words h) in
     record {
       source = omega (arith, n, (node_at h).whole, view_length a (Old c.args.from));
       target = omega (arith, n, c.requires.3);
@@ -29,11 +29,11 @@ pub returns-then-x : goal.returns-then-x
 returns-then-x c =
     let a = c.args.area.now in
     let o = (stood c.requires.2 c.if-x.true).here in
-    let m = c.node-count-count.ensures _ (carried c.part.ensures.words o) in
+    let m = c.node_count-count.ensures _ (carried c.part.ensures.words o) in
     record {
       grows = λ k t h.
           let s = (stood h c.if-x.true).here in
-          let n = c.node-count-count.ensures _ (carried c.part.ensures.words s) in
+          let n = c.node_count-count.ensures _ (carried c.part.ensures.words s) in
           copied s n (omega (arith, m, c.requires.3, view_length a (New c.args.to))) (same_length c.copy.ensures.only (New c.args.to)) c.copy.ensures.here;
       only = c.copy.ensures.only;
     }

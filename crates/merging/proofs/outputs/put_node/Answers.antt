@@ -4,11 +4,11 @@ use Rattle.area.proofs.Laws.{view_length, limit_small}
 use Rattle.merging.proofs.Writing.{node_pasted}
 use Rattle.merging.proofs.outputs.put_node.Goals as goal
 
-pub overflow-mul-at : goal.overflow-mul-at
-overflow-mul-at c = omega (arith, limit_small c.args.area.now)
+pub overflow_mul-at : goal.overflow_mul-at
+overflow_mul-at c = omega (arith, limit_small c.args.area.now)
 
-pub overflow-add-result : goal.overflow-add-result
-overflow-add-result c = omega (arith, limit_small c.args.area.now)
+pub overflow_add-result : goal.overflow_add-result
+overflow_add-result c = omega (arith, limit_small c.args.area.now)
 
 pub returns : goal.returns
 returns c =

@@ -4,23 +4,23 @@ use Rattle.area.proofs.Laws.{view_length, limit_small}
 use Rattle.merging.proofs.Writing.{opened_long, closed, grown_in}
 use Rattle.merging.proofs.outputs.seal.Goals as goal
 
-pub overflow-mul-at : goal.overflow-mul-at
-overflow-mul-at c =
+pub overflow_mul-at : goal.overflow_mul-at
+overflow_mul-at c =
     let a = c.args.area.now in
     omega (arith, opened_long c.requires.2, c.requires.2.room, view_length a (New c.args.t), limit_small a)
 
-pub overflow-add-at : goal.overflow-add-at
-overflow-add-at c =
+pub overflow_add-at : goal.overflow_add-at
+overflow_add-at c =
     let a = c.args.area.now in
     omega (arith, opened_long c.requires.2, c.requires.2.room, view_length a (New c.args.t), limit_small a)
 
-pub overflow-sub-to : goal.overflow-sub-to
-overflow-sub-to c =
+pub overflow_sub-to : goal.overflow_sub-to
+overflow_sub-to c =
     let a = c.args.area.now in
     omega (arith, opened_long c.requires.2, c.requires.2.room, view_length a (New c.args.t), limit_small a)
 
-pub overflow-cast-to : goal.overflow-cast-to
-overflow-cast-to c =
+pub overflow_cast-to : goal.overflow_cast-to
+overflow_cast-to c =
     let a = c.args.area.now in
     omega (arith, opened_long c.requires.2, c.requires.2.room, view_length a (New c.args.t), limit_small a)
 

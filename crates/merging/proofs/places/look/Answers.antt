@@ -14,7 +14,7 @@ lookup-requires-3 c = (_, c.requires.1 Bench)
 pub returns : goal.returns
 returns c left h a =
     record {
-      least = c.next-name-name.ensures left h;
+      least = c.next_name-name.ensures left h;
       seen =
           by_table _ (c.lookup.ensures _ (h Archive) (a Archive)) (c.lookup-2.ensures _ (h Field) (a Field))
           (c.lookup-3.ensures _ (h Bench) (a Bench));

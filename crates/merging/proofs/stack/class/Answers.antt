@@ -5,8 +5,8 @@ use Rattle.area.proofs.Laws.{limit_small}
 use Rattle.merging.proofs.Stacking.{class_none, class_some, read_at, read_first}
 use Rattle.merging.proofs.stack.class.Goals as goal
 
-pub overflow-add-at : goal.overflow-add-at
-overflow-add-at c = omega (arith, limit_small c.args.area.now, c.requires)
+pub overflow_add-at : goal.overflow_add-at
+overflow_add-at c = omega (arith, limit_small c.args.area.now, c.requires)
 
 pub returns-then-get-eq0 : goal.returns-then-get-eq0
 returns-then-get-eq0 c k rest e =

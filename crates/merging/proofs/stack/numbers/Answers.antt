@@ -5,11 +5,11 @@ use Rattle.area.specs.declared.regions.Region.TheVariants.{Stack}
 use Rattle.area.proofs.Laws.{limit_small}
 use Rattle.merging.proofs.stack.numbers.Goals as goal
 
-pub overflow-add-at : goal.overflow-add-at
-overflow-add-at c = omega (arith, limit_small c.args.area.now, c.requires)
+pub overflow_add-at : goal.overflow_add-at
+overflow_add-at c = omega (arith, limit_small c.args.area.now, c.requires)
 
-pub overflow-add-at-2 : goal.overflow-add-at-2
-overflow-add-at-2 c = omega (arith, limit_small c.args.area.now, c.requires)
+pub overflow_add-at-2 : goal.overflow_add-at-2
+overflow_add-at-2 c = omega (arith, limit_small c.args.area.now, c.requires)
 
 pub returns : goal.returns
 returns c s rest e =

@@ -6,23 +6,23 @@ use Rattle.area.proofs.Laws.{view_length}
 use Rattle.merging.proofs.Stacking.{stacked}
 use Rattle.merging.proofs.stack.push.Goals as goal
 
-pub overflow-cast-words : goal.overflow-cast-words
-overflow-cast-words c = omega (arith, c.requires.low.ends_low Archive)
+pub overflow_cast-words : goal.overflow_cast-words
+overflow_cast-words c = omega (arith, c.requires.low.ends_low Archive)
 
-pub overflow-cast-words-2 : goal.overflow-cast-words-2
-overflow-cast-words-2 c = omega (arith, c.requires.low.ends_low Field)
+pub overflow_cast-words-2 : goal.overflow_cast-words-2
+overflow_cast-words-2 c = omega (arith, c.requires.low.ends_low Field)
 
-pub overflow-cast-words-3 : goal.overflow-cast-words-3
-overflow-cast-words-3 c = omega (arith, c.requires.low.ends_low Bench)
+pub overflow_cast-words-3 : goal.overflow_cast-words-3
+overflow_cast-words-3 c = omega (arith, c.requires.low.ends_low Bench)
 
-pub overflow-cast-words-6 : goal.overflow-cast-words-6
-overflow-cast-words-6 c = omega (arith, c.requires.low.new_low Archive)
+pub overflow_cast-words-6 : goal.overflow_cast-words-6
+overflow_cast-words-6 c = omega (arith, c.requires.low.new_low Archive)
 
-pub overflow-cast-words-7 : goal.overflow-cast-words-7
-overflow-cast-words-7 c = omega (arith, c.requires.low.new_low Field)
+pub overflow_cast-words-7 : goal.overflow_cast-words-7
+overflow_cast-words-7 c = omega (arith, c.requires.low.new_low Field)
 
-pub overflow-cast-words-8 : goal.overflow-cast-words-8
-overflow-cast-words-8 c = omega (arith, c.requires.low.new_low Bench)
+pub overflow_cast-words-8 : goal.overflow_cast-words-8
+overflow_cast-words-8 c = omega (arith, c.requires.low.new_low Bench)
 
 pub returns : goal.returns
 returns c =

@@ -6,17 +6,17 @@ use Rattle.merging.specs.Frames.{frame_words}
 use Rattle.merging.proofs.Stacking.{read_at, read_on}
 use Rattle.merging.proofs.stack.top.Goals as goal
 
-pub overflow-add-at : goal.overflow-add-at
-overflow-add-at c = omega (arith, limit_small c.args.area.now, c.requires)
+pub overflow_add-at : goal.overflow_add-at
+overflow_add-at c = omega (arith, limit_small c.args.area.now, c.requires)
 
-pub overflow-add-at-2 : goal.overflow-add-at-2
-overflow-add-at-2 c = omega (arith, limit_small c.args.area.now, c.requires)
+pub overflow_add-at-2 : goal.overflow_add-at-2
+overflow_add-at-2 c = omega (arith, limit_small c.args.area.now, c.requires)
 
-pub overflow-add-at-3 : goal.overflow-add-at-3
-overflow-add-at-3 c = omega (arith, limit_small c.args.area.now, c.requires)
+pub overflow_add-at-3 : goal.overflow_add-at-3
+overflow_add-at-3 c = omega (arith, limit_small c.args.area.now, c.requires)
 
-pub overflow-add-at-4 : goal.overflow-add-at-4
-overflow-add-at-4 c = omega (arith, limit_small c.args.area.now, c.requires)
+pub overflow_add-at-4 : goal.overflow_add-at-4
+overflow_add-at-4 c = omega (arith, limit_small c.args.area.now, c.requires)
 
 pub returns : goal.returns
 returns c f rest e =

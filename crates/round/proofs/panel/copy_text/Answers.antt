@@ -14,27 +14,27 @@ use Rattle.round.proofs.panel.copy_text.Goals as goal
 abbrev copied : Meaning → List ℕ → Whose → Result Tree Refusal
 copied m bs whose = then (says bs (copy_of whose 0)) (lawful m (Some 0) whose)
 
-pub returns-in-err-view : goal.returns-in-err-view
-returns-in-err-view g c =
-    let p = err_from_is_err_and c.from-residual.result c.from-residual.ensures.1 in
+pub returns-in_err-view : goal.returns-in_err-view
+returns-in_err-view g c =
+    let p = err_from_is_err_and c.from_residual.result c.from_residual.ensures.1 in
     let bs = c.args.bytes.now in
     let m = g.R.Rulebook.meaning c.args.rules.now in
     record {
-      answer = refused_length bs (copied m bs c.args.whose) c.args.out.now _ _ (p.1 ∙ ap Err p.2) c.in-err-view.ensures.answer;
-      output = refused_output bs (copied m bs c.args.whose) c.args.out.now _ c.in-err-view.ensures.answer;
+      answer = refused_length bs (copied m bs c.args.whose) c.args.out.now _ _ (p.1 ∙ ap Err p.2) c.in_err-view.ensures.answer;
+      output = refused_output bs (copied m bs c.args.whose) c.args.out.now _ c.in_err-view.ensures.answer;
     }
 
-pub view-text-requires : goal.view-text-requires
-view-text-requires g c =
-    let f = passed (g.R.Rulebook.meaning c.args.rules.now) (Some 0) c.args.bytes.now c.args.whose 0 c.in-ok-view.view (λ i. (c.type-inv.bytes i).fits) c.in-ok-view.ensures.answer in
+pub view_text-requires : goal.view_text-requires
+view_text-requires g c =
+    let f = passed (g.R.Rulebook.meaning c.args.rules.now) (Some 0) c.args.bytes.now c.args.whose 0 c.in_ok-view.view (λ i. (c.type_inv.bytes i).fits) c.in_ok-view.ensures.answer in
     record { shown = (f.tree, f.shows); room = c.requires }
 
 pub returns : goal.returns
 returns g c =
     let bs = c.args.bytes.now in
     let m = g.R.Rulebook.meaning c.args.rules.now in
-    let f = passed m (Some 0) bs c.args.whose 0 c.in-ok-view.view (λ i. (c.type-inv.bytes i).fits) c.in-ok-view.ensures.answer in
+    let f = passed m (Some 0) bs c.args.whose 0 c.in_ok-view.view (λ i. (c.type_inv.bytes i).fits) c.in_ok-view.ensures.answer in
     record {
-      answer = shown_length bs (copied m bs c.args.whose) c.args.out.now _ f.tree f.is (c.view-text.ensures.answer f.tree f.shows);
-      output = shown_output bs (copied m bs c.args.whose) c.args.out.now _ f.tree f.is (c.view-text.ensures.output f.tree f.shows);
+      answer = shown_length bs (copied m bs c.args.whose) c.args.out.now _ f.tree f.is (c.view_text.ensures.answer f.tree f.shows);
+      output = shown_output bs (copied m bs c.args.whose) c.args.out.now _ f.tree f.is (c.view_text.ensures.output f.tree f.shows);
     }

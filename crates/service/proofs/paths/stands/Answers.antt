@@ -4,4 +4,4 @@ use Rattle.service.proofs.Ways.{nodes_tell}
 use Rattle.service.proofs.paths.stands.Goals as goal
 
 pub returns : goal.returns
-returns c t h u = ap (ltb 0) (c.nodes-at.ensures t h u) ∙ nodes_tell (at t c.args.path.now)
+returns c t h u = ap (ltb 0) (c.nodes_at.ensures t h u) ∙ nodes_tell (at t c.args.path.now)

@@ -4,9 +4,9 @@ use Rattle.area.specs.Views.{limit}
 use Rattle.area.proofs.types.Area.new.Goals as goal
 use Rattle.area.proofs.types.Area.new.Goals.{then-n-lt1024, else-n-lt1024}
 
-pub invariant-of-result : goal.invariant-of-result
+pub invariant_of-result : goal.invariant_of-result
 unfolding limit_of
-invariant-of-result c = elim c.if-n-lt1024.branch [ then-n-lt1024 w ↦ omega (arith, w.limit-is) | else-n-lt1024 w ↦ omega (arith, w.limit-is) ]
+invariant_of-result c = elim c.if-n-lt1024.branch [ then-n-lt1024 w ↦ omega (arith, w.limit-is) | else-n-lt1024 w ↦ omega (arith, w.limit-is) ]
 
 pub returns : goal.returns
 unfolding limit_of limit

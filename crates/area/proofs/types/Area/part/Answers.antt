@@ -7,17 +7,17 @@ use Rattle.area.proofs.types.Area.part.Goals as goal
 sized : (l w k : ℕ) → w ≡ k → w * l ≡ l * k
 sized l w k e = mul_comm w l ∙ ap (λ n. l * n) e
 
-pub overflow-mul-to : goal.overflow-mul-to
-overflow-mul-to c = omega (arith, region_fits c.args.self.now c.args.r, sized c.args.self.now.limit _ _ c.width.ensures)
+pub overflow_mul-to : goal.overflow_mul-to
+overflow_mul-to c = omega (arith, region_fits c.args.self.now c.args.r, sized c.args.self.now.limit _ _ c.width.ensures)
 
-pub overflow-add-to : goal.overflow-add-to
-overflow-add-to c = omega (arith, region_fits c.args.self.now c.args.r, sized c.args.self.now.limit _ _ c.width.ensures)
+pub overflow_add-to : goal.overflow_add-to
+overflow_add-to c = omega (arith, region_fits c.args.self.now c.args.r, sized c.args.self.now.limit _ _ c.width.ensures)
 
-pub offset-bounds-as-slice-from : goal.offset-bounds-as-slice-from
-offset-bounds-as-slice-from c = omega (arith, region_fits c.args.self.now c.args.r, c.as-slice.ensures.len)
+pub offset_bounds-as_slice-from : goal.offset_bounds-as_slice-from
+offset_bounds-as_slice-from c = omega (arith, region_fits c.args.self.now c.args.r, c.as_slice.ensures.len)
 
-pub slice-bounds-result-end : goal.slice-bounds-result-end
-slice-bounds-result-end c = omega (arith, region_fits c.args.self.now c.args.r, sized c.args.self.now.limit _ _ c.width.ensures, c.as-slice.ensures.len)
+pub slice_bounds-result-end : goal.slice_bounds-result-end
+slice_bounds-result-end c = omega (arith, region_fits c.args.self.now c.args.r, sized c.args.self.now.limit _ _ c.width.ensures, c.as_slice.ensures.len)
 
 pub returns : goal.returns
 unfolding part view
@@ -28,5 +28,5 @@ returns c =
     let e = sized a.limit _ _ c.width.ensures in
     let p : from ≡ a.limit * start c.args.r = omega arith in
     let w : from + size - from ≡ a.limit * width c.args.r = omega arith in
-    let v : take (from + size - from) (drop from c.as-slice.result.now) ≡ view a c.args.r = cc c.as-slice.ensures.value in
+    let v : take (from + size - from) (drop from c.as_slice.result.now) ≡ view a c.args.r = cc c.as_slice.ensures.value in
     record { words = v; long = ap length v ∙ view_length a c.args.r }

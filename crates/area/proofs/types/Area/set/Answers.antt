@@ -3,13 +3,13 @@ use Rattle.area.specs.Views.{limit}
 use Rattle.area.proofs.Parts.{region_fits, put}
 use Rattle.area.proofs.types.Area.set.Goals as goal
 
-pub overflow-add-at : goal.overflow-add-at
+pub overflow_add-at : goal.overflow_add-at
 unfolding limit
-overflow-add-at c = omega (arith, region_fits c.args.self.now c.args.r)
+overflow_add-at c = omega (arith, region_fits c.args.self.now c.args.r)
 
-pub index-mut-requires : goal.index-mut-requires
+pub index_mut-requires : goal.index_mut-requires
 unfolding limit
-index-mut-requires c = omega (arith, region_fits c.args.self.now c.args.r)
+index_mut-requires c = omega (arith, region_fits c.args.self.now c.args.r)
 
 pub returns : goal.returns
 returns c =

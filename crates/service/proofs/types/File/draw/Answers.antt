@@ -12,13 +12,16 @@ use Rattle.service.proofs.types.File.draw.Goals as goal
 pub draw-drawn-requires : goal.draw-drawn-requires
 draw-drawn-requires g c = (trees c.args.self, open_keeps c.args.self.area Tree c.args.self.sizes c.args.self.ok)
 
-pub invariant-of-result : goal.invariant-of-result
-invariant-of-result g c =
+pub invariant_of-result : goal.invariant_of-result
+invariant_of-result g c =
     let f = c.args.self in
     let k = open_keeps f.area Tree f.sizes f.ok in
     let d = c.draw-drawn.ensures in
     let ans = draw_answer (g.R.Rulebook.meaning c.args.rules.now) (limit f) (trees f) in
-    (∣ kept_itself (still_kept k d.only (λ t. refl)) ∣₁, (∣ (drawn_came c.draw-drawn.new.area c.draw-drawn.result ans (d.answer (trees f) k) (λ o. d.came (trees f) o k)).0 ∣₁, tt))
+    record {
+      ok = ∣ kept_itself (still_kept k d.only (λ t. refl)) ∣₁;
+      came = ∣ (drawn_came c.draw-drawn.new.area c.draw-drawn.result ans (d.answer (trees f) k) (λ o. d.came (trees f) o k)).0 ∣₁;
+    }
 
 pub returns : goal.returns
 returns g c =

@@ -5,8 +5,8 @@ use Rattle.service.proofs.Once.{kept_trees, kept_itself}
 use Rattle.service.proofs.Methods.{nothing_kept}
 use Rattle.service.proofs.types.File.new.Goals as goal
 
-pub invariant-of-result : goal.invariant-of-result
-invariant-of-result c = (∣ kept_itself (nothing_kept c.new.result) ∣₁, tt)
+pub invariant_of-result : goal.invariant_of-result
+invariant_of-result c = record { ok = ∣ kept_itself (nothing_kept c.new.result) ∣₁ }
 
 pub returns : goal.returns
 returns c = record { state = ap file (kept_trees (nothing_kept c.new.result)); limit = c.new.ensures }

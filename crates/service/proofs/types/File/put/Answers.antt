@@ -9,25 +9,25 @@ use Rattle.service.proofs.types.File.put.Goals as goal
 pub put-requires : goal.put-requires
 put-requires g c = (trees_in c.args.self.now.area Tree c.args.self.now.sizes, open_keeps c.args.self.now.area Tree c.args.self.now.sizes c.args.self.now.ok)
 
-pub invariant-of-self : goal.invariant-of-self
-invariant-of-self g c =
+pub invariant_of-self : goal.invariant_of-self
+invariant_of-self g c =
     let k = open_keeps c.args.self.now.area Tree c.args.self.now.sizes c.args.self.now.ok in
-    (∣ kept_itself (stays k (c.in-err-self.ensures _ k)) ∣₁, tt)
+    record { ok = ∣ kept_itself (stays k (c.in_err-self.ensures _ k)) ∣₁ }
 
-pub returns-in-err-self : goal.returns-in-err-self
-returns-in-err-self g c =
+pub returns-in_err-self : goal.returns-in_err-self
+returns-in_err-self g c =
     let k = open_keeps c.args.self.now.area Tree c.args.self.now.sizes c.args.self.now.ok in
-    let x = c.in-err-self.ensures _ k in
-    let r = err_from_is_err_and c.from-residual.result c.from-residual.ensures.1 in
+    let x = c.in_err-self.ensures _ k in
+    let r = err_from_is_err_and c.from_residual.result c.from_residual.ensures.1 in
     record { answer = r.1 ∙ ap Err r.2 ∙ tells_refusal x; state = kept_trees (stays k x); limit = x.same_limit }
 
-pub invariant-of-self-2 : goal.invariant-of-self-2
-invariant-of-self-2 g c =
+pub invariant_of-self-2 : goal.invariant_of-self-2
+invariant_of-self-2 g c =
     let k = open_keeps c.args.self.now.area Tree c.args.self.now.sizes c.args.self.now.ok in
-    (∣ kept_itself (moves (c.in-ok-self.ensures _ k)) ∣₁, tt)
+    record { ok = ∣ kept_itself (moves (c.in_ok-self.ensures _ k)) ∣₁ }
 
 pub returns : goal.returns
 returns g c =
     let k = open_keeps c.args.self.now.area Tree c.args.self.now.sizes c.args.self.now.ok in
-    let x = c.in-ok-self.ensures _ k in
+    let x = c.in_ok-self.ensures _ k in
     record { answer = tells_done x; state = kept_trees (moves x); limit = x.same_limit }

@@ -12,7 +12,7 @@ returns c =
     record {
       answer = search rules;
       output = search rules;
-      reads-back =
+      reads_back =
           read_back c.args.table held (wrote.narrow _ held) (kept_unmarked (open_keeps f.area Tree f.sizes f.ok))
           c.kind.ensures _ (wrote.answer _ held) (wrote.after _ held);
     }

@@ -7,17 +7,17 @@ use Rattle.service.proofs.Methods.{drawn_kept, undrawn_kept}
 use Rattle.service.proofs.types.Round.adopt.Goals.{in-Ok, in-Err}
 use Rattle.service.proofs.types.Round.adopt.Goals as goal
 
-pub take-over-requires : goal.take-over-requires
-take-over-requires c =
+pub take_over-requires : goal.take_over-requires
+take_over-requires c =
     let r = c.args.self in
     (_, drawn_kept r.area r.drawn (before r) r.came _ c.in-Ok.is)
 
-pub invariant-of-result : goal.invariant-of-result
-invariant-of-result c =
+pub invariant_of-result : goal.invariant_of-result
+invariant_of-result c =
     let r = c.args.self in
     elim c.match-drawn.branch [
-      | in-Ok w ↦ rw w.result-is (∣ kept_itself (w.take-over.ensures.kept _ (drawn_kept r.area r.drawn (before r) r.came _ w.in-Ok.is)) ∣₁, tt)
-      | in-Err w ↦ rw w.result-is (r.ok, tt)
+      | in-Ok w ↦ rw w.result-is (record { ok = ∣ kept_itself (w.take_over.ensures.kept _ (drawn_kept r.area r.drawn (before r) r.came _ w.in-Ok.is)) ∣₁ })
+      | in-Err w ↦ rw w.result-is (record { ok = r.ok })
     ]
 
 pub returns : goal.returns
@@ -26,8 +26,8 @@ returns c =
     elim c.match-drawn.branch [
       | in-Ok w ↦
           record {
-            state = rw w.result-is (ap file (kept_trees (w.take-over.ensures.kept _ (drawn_kept r.area r.drawn (before r) r.came _ w.in-Ok.is))));
-            limit = rw w.result-is w.take-over.ensures.only.same_limit;
+            state = rw w.result-is (ap file (kept_trees (w.take_over.ensures.kept _ (drawn_kept r.area r.drawn (before r) r.came _ w.in-Ok.is))));
+            limit = rw w.result-is w.take_over.ensures.only.same_limit;
           }
       | in-Err w ↦
           record {

@@ -12,7 +12,7 @@ returns c =
     record {
       answer = search rules;
       output = search rules;
-      reads-back =
+      reads_back =
           read_back c.args.table held (wrote.narrow _ held) (held_unmarked r.area r.drawn (open_keeps r.area Tree r.sizes r.ok) r.came)
           c.kind.ensures _ (wrote.answer _ held) (wrote.after _ held);
     }

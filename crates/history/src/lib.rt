@@ -5,7 +5,7 @@ ghost use Rattle.area.specs.Layout.{limit_of};
 ghost use Rattle.ledger.specs.Ledger.{start, step as step_of_lem, answer as answer_of, stands, answers as AnswersOf, held};
 ghost use Rattle.ledger.specs.Histories.{CopiesObey, RoundsAreMarkedAtConflicts, RoundsAreSafe, NoRivalDoesMore};
 ghost use Rattle.service.specs.Service.{limit, of_file, of_round, round_limit};
-ghost use Rattle.history.specs.Desks.{state_of, limit_of, refused_in, first_refused, replay_report};
+ghost use Rattle.history.specs.Desks.{state_of, limit_of as desk_limit, refused_in, first_refused, replay_report};
 
 use ledger::{Answer, Call};
 use refusals::Refusal;
@@ -22,7 +22,7 @@ pub use types::{Desk, Replay};
 fn on_file<R: Rulebook>(rules: &R, mut file: File, call: Call) -> (Desk, Answer)
     ensures state { state_of result.0 ≡ step_of_lem (R.meaning rules.now) (limit file) (of_file file) call.entry }
     ensures answer { result.1 ≡ answer_of (R.meaning rules.now) (limit file) (of_file file) call.entry }
-    ensures limit { limit_of result.0 ≡ limit file }
+    ensures limit { desk_limit result.0 ≡ limit file }
 {
     match call {
         Call::Load {
@@ -58,7 +58,7 @@ fn on_file<R: Rulebook>(rules: &R, mut file: File, call: Call) -> (Desk, Answer)
 fn on_round<R: Rulebook>(rules: &R, round: Round, call: Call) -> (Desk, Answer)
     ensures state { state_of result.0 ≡ step_of_lem (R.meaning rules.now) (round_limit round) (of_round round) call.entry }
     ensures answer { result.1 ≡ answer_of (R.meaning rules.now) (round_limit round) (of_round round) call.entry }
-    ensures limit { limit_of result.0 ≡ round_limit round }
+    ensures limit { desk_limit result.0 ≡ round_limit round }
 {
     match call {
         Call::Adopt => (Desk::File(round.adopt()), Answer::Returned),
@@ -69,9 +69,9 @@ fn on_round<R: Rulebook>(rules: &R, round: Round, call: Call) -> (Desk, Answer)
 
 // One call.
 fn step<R: Rulebook>(rules: &R, desk: Desk, call: Call) -> (Desk, Answer)
-    ensures state { state_of result.0 ≡ step_of_lem (R.meaning rules.now) (limit_of desk) (state_of desk) call.entry }
-    ensures answer { result.1 ≡ answer_of (R.meaning rules.now) (limit_of desk) (state_of desk) call.entry }
-    ensures limit { limit_of result.0 ≡ limit_of desk }
+    ensures state { state_of result.0 ≡ step_of_lem (R.meaning rules.now) (desk_limit desk) (state_of desk) call.entry }
+    ensures answer { result.1 ≡ answer_of (R.meaning rules.now) (desk_limit desk) (state_of desk) call.entry }
+    ensures limit { desk_limit result.0 ≡ desk_limit desk }
 {
     match desk {
         Desk::File(file) => on_file(rules, file, call),

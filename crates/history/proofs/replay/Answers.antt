@@ -7,8 +7,8 @@ use Rattle.service.specs.Service.{limit, of_file}
 use Rattle.history.proofs.Runs.{goes_on, ends}
 use Rattle.history.proofs.replay.Goals as goal
 
-pub returns-in-err-push : goal.returns-in-err-push
-returns-in-err-push g c =
+pub returns-in_err-push : goal.returns-in_err-push
+returns-in_err-push g c =
     let m = g.R.Rulebook.meaning c.args.rules.now in
     let l = limit_of (vec_len c.args.words) in
     let calls = c.args.calls.now in
@@ -24,7 +24,7 @@ returns-in-err-push g c =
 pub loop-call-preserved : goal.loop-call-preserved
 loop-call-preserved g c =
     let s = c.step-next.ensures in
-    (goes_on _ _ _ c.step-next.result.1 _ c.loop-call.invariant.0 c.loop-call-test.true c.loop-call.invariant.1 s.state s.answer c.in-ok-push.ensures.items, s.limit ∙ c.loop-call.invariant.1)
+    (goes_on _ _ _ c.step-next.result.1 _ c.loop-call.invariant.0 c.loop-call-test.true c.loop-call.invariant.1 s.state s.answer c.in_ok-push.ensures.items, s.limit ∙ c.loop-call.invariant.1)
 
 pub returns : goal.returns
 returns g c =

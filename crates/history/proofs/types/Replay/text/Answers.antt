@@ -13,4 +13,4 @@ returns c =
       | in-Err w ↦ w.needed-is ∙ length_refused bs _ (sym w.in-Err.is ∙ c.report.ensures.answer)
     ]
     in
-    fills bs _ c.report-2.new.out _ _ (c.in-ok-text.ensures.len ∙ n) c.as-mut-slice.ensures.len c.report-2.ensures.output
+    fills bs _ c.report-2.new.out _ _ (c.in_ok-text.ensures.len ∙ n) c.as_mut_slice.ensures.len c.report-2.ensures.output

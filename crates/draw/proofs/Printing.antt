@@ -1,16 +1,10 @@
 -- A load and a draw, and what is reported of them.
-use Rattle.std.proofs.Common.{◌≡◌, ℕ, true, List, [], ◌∷◌, is_err, IfOk, Ok, Err, Result, sym, refl, ap, ◌∙◌, true≢false, Bor}
-use Rattle.model.specs.Meaning.{Meaning}
-use Rattle.model.specs.Round.{Outcome}
+use Rattle.std.proofs.Common.{◌≡◌, ℕ, true, List, [], ◌∷◌, is_err, IfOk, Ok, Err, Result, sym, ap, ◌∙◌, true≢false, Bor}
 use Rattle.model.specs.Rulebooks.{plate_meaning}
-use Rattle.refusals.specs.declared.Refusal.{Refusal}
-use Rattle.records.specs.Reading.{then}
 use Rattle.area.specs.Layout.{limit_of}
 use Rattle.ledger.specs.declared.Answer.{Answer}
 use Rattle.ledger.specs.declared.Call.TheVariants.{Load, Draw}
-use Rattle.ledger.specs.Answers.{load_answer, draw_answer}
 use Rattle.ledger.specs.Ledger.{State, start, stands, answers}
-use Rattle.service.specs.Service.{reported}
 use Rattle.history.specs.Desks.{first_refused, replay_report}
 use Rattle.history.proofs.Runs.{reports_first}
 use Rattle.draw.specs.Printed.{most_nodes, printed}

@@ -1,4 +1,6 @@
 // The program `draw`: loads the three records of a panel, draws a round, and prints its report, or the first reason to refuse them.
+#![tactic(auto)]
+
 ghost use Rattle.std.specs.Prelude.{◌≡◌, ◌≤◌, length, IfOk};
 ghost use Rattle.draw.specs.Printed.{printed};
 

@@ -1,4 +1,6 @@
 // The trees in an area: the names of a node, whether a tree obeys, paths and edits.
+#![tactic(auto)]
+
 mod gathering;
 mod obedience;
 mod reaching;

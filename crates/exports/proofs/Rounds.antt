@@ -4,7 +4,6 @@ use Rattle.refusals.specs.declared.Refusal.{Refusal}
 use Rattle.records.specs.Files.{Bytes}
 use Rattle.model.specs.Rulebooks.{open_meaning}
 use Rattle.model.proofs.Theorems.{outcome_is_well_formed}
-use Rattle.model.specs.Trees.{nodes}
 use Rattle.model.specs.Meaning.{Meaning}
 use Rattle.model.specs.Round.{Outcome, outcome, round}
 use Rattle.model.specs.Safety.{Ready}

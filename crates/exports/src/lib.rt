@@ -1,4 +1,6 @@
 // What C and Rust programs call of the library, over numbers and slices.
+#![tactic(auto)]
+
 ghost use Rattle.std.specs.Prelude.{◌≡◌, ◌<◌, length, Some};
 ghost use Rattle.refusals.specs.declared.Whose.TheVariants.{Field};
 ghost use Rattle.model.specs.Rulebooks.{open_meaning};

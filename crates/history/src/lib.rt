@@ -1,4 +1,6 @@
 // Lists of calls: what stands after them, what they answer, and what holds of every round among them.
+#![tactic(auto)]
+
 ghost use Rattle.std.specs.Prelude.{◌≡◌, IfOk, vec_len};
 ghost use Rattle.refusals.specs.Output.{told as told_length, left as left_in};
 ghost use Rattle.area.specs.Layout.{limit_of};

@@ -1,4 +1,6 @@
 // Brings the tree of a record file into a region of an area.
+#![tactic(auto)]
+
 ghost use Rattle.std.specs.Prelude.{◌≡◌, ◌*◌, ◌≤◌, [], ◌∷◌, drop};
 ghost use Rattle.model.specs.Trees.{Tree};
 ghost use Rattle.records.specs.Files.{Shows};

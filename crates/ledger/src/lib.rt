@@ -1,4 +1,6 @@
 // The calls of a service file, what they answer, and what the ledger of a list of calls says.
+#![tactic(auto)]
+
 ghost use Rattle.std.specs.Prelude.{◌≡◌, ℕ, List};
 ghost use Rattle.model.specs.Meaning.{Meaning};
 ghost use Rattle.ledger.specs.Answers.{whose_of};

@@ -1,19 +1,19 @@
 -- Files that are read and then tested further.
-use Rattle.std.proofs.Common.{◌≡◌, ℕ, ◌<◌, ◌≤◌, Bool, true, false, cond, leb, List, Some, None, Ok, Err, Option, Result, sym, refl, ap, ◌∙◌, subst, arith}
+use Rattle.std.proofs.Common.{◌≡◌, ℕ, ◌≤◌, Bool, true, false, cond, leb, List, Some, None, Ok, Err, Option, Result, sym, refl, ap, ◌∙◌, subst, arith}
 use Rattle.std.proofs.lemmas.Bool.{leb-true}
 use Rattle.model.specs.Trees.{Tree, nodes}
 use Rattle.model.specs.Meaning.{Meaning, Obeys}
 use Rattle.model.specs.Faults.{first_fault}
 use Rattle.model.proofs.Faults.{obeys_from}
 use Rattle.refusals.specs.declared.Refusal.{Refusal}
-use Rattle.refusals.specs.declared.Reason.TheVariants.{Crowded, Disobeys}
+use Rattle.refusals.specs.declared.Reason.TheVariants.{Crowded}
 use Rattle.refusals.specs.declared.Whose.{Whose}
 use Rattle.refusals.specs.Numbers.{refused}
 use Rattle.records.specs.declared.View.{View}
 use Rattle.records.specs.declared.Wanted.{Wanted}
 use Rattle.records.specs.Reading.{says, then, viewed, view_of}
-use Rattle.records.specs.Files.{Fits, EndsWith, Shows, Bytes}
-use Rattle.records.proofs.Fits.{Found, found}
+use Rattle.records.specs.Files.{Fits, Shows, Bytes}
+use Rattle.records.proofs.Fits.{found}
 use Rattle.obeying.specs.Lawful.{copy_of, faulty, lawful}
 use Rattle.loading.specs.Loads.{within, copy_loaded}
 

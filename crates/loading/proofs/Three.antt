@@ -1,5 +1,5 @@
 -- Three files in turn.
-use Rattle.std.proofs.Common.{◌≡◌, ℕ, List, Ok, Err, Result, refl, ap, arith}
+use Rattle.std.proofs.Common.{◌≡◌, ℕ, List, Ok, Err, Result, ap, arith}
 use Rattle.model.specs.Trees.{Tree}
 use Rattle.model.specs.Round.{Outcome, outcome}
 use Rattle.refusals.specs.declared.Refusal.{Refusal}

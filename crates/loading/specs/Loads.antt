@@ -1,5 +1,5 @@
 -- What three record files load as.
-use Rattle.std.specs.Prelude.{◌≡◌, ℕ, ◌≤◌, cond, List, Some, Ok, Err, Result, nat_le}
+use Rattle.std.specs.Prelude.{ℕ, ◌≤◌, cond, List, Some, Ok, Err, Result, nat_le}
 use Rattle.model.specs.Trees.{Tree, nodes}
 use Rattle.model.specs.Meaning.{Meaning}
 use Rattle.model.specs.Round.{Outcome, outcome}
@@ -9,7 +9,6 @@ use Rattle.refusals.specs.declared.Whose.{Whose}
 use Rattle.refusals.specs.declared.Whose.TheVariants as whose
 use Rattle.refusals.specs.Numbers.{refused}
 use Rattle.records.specs.declared.Wanted.{Wanted}
-use Rattle.records.specs.declared.View.{View}
 use Rattle.records.specs.declared.TreeKind.TheVariants as tree-kind
 use Rattle.records.specs.Reading.{says, then, view_of}
 use Rattle.obeying.specs.Lawful.{lawful, copy_of}

@@ -1,4 +1,6 @@
 // Loads three record files into the tree regions of an area, or says why not; then nothing has changed.
+#![tactic(auto)]
+
 ghost use Rattle.std.specs.Prelude.{◌≡◌, ℕ, ◌*◌, ◌≤◌, true, [], ◌∷◌, is_err, Some, Ok};
 ghost use Rattle.model.specs.Trees.{Tree as TheTree};
 ghost use Rattle.model.specs.Round.{Outcome};

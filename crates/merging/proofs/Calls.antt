@@ -19,7 +19,7 @@ use Rattle.merging.specs.declared.types.Frame.{Frame}
 use Rattle.merging.specs.declared.types.Walk.{Walk}
 use Rattle.merging.specs.declared.types.Step.{Step}
 use Rattle.merging.specs.declared.types.Step.TheVariants.{Down}
-use Rattle.merging.specs.Tables.{pick, each, spot, tree_of, there}
+use Rattle.merging.specs.Tables.{pick, each, spot, tree_of}
 use Rattle.merging.specs.Steps.{made, verdict}
 use Rattle.merging.specs.Levels.{Level, framed}
 use Rattle.merging.specs.Looking.{Least, Looked}

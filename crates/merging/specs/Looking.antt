@@ -8,7 +8,7 @@ use Rattle.area.specs.declared.regions.Table.{Table}
 use Rattle.area.specs.declared.regions.Table.TheVariants.{Field, Bench}
 use Rattle.merging.specs.declared.types.Sizes.{Sizes}
 use Rattle.merging.specs.declared.types.Here.{Here}
-use Rattle.merging.specs.Tables.{At, pick, spot, sources, there}
+use Rattle.merging.specs.Tables.{At, pick, spot, sources}
 
 -- Trees that stand where lookups of one name stopped.
 abbrev pub Finds : Area → Here → (Table → Tree) → Type 0

@@ -1,4 +1,6 @@
 // The round of a field copy and a bench copy over their archive, in the words of one area.
+#![tactic(auto)]
+
 ghost use Rattle.std.specs.Prelude.{◌+◌, ◌<◌, [], ◌∷◌, Some};
 ghost use Rattle.model.specs.Trees.{Tree};
 ghost use Rattle.model.specs.Round.{Outcome, round as round_of};

@@ -1,5 +1,5 @@
 -- A tree without a fault obeys, and the other way round.
-use Rattle.std.proofs.Common.{◌≡◌, ℕ, ◌+◌, Bool, true, false, cond, T, Some, None, Option, refl, ap, ◌∙◌, arith}
+use Rattle.std.proofs.Common.{◌≡◌, ℕ, ◌+◌, Bool, true, false, cond, T, Some, None, Option, refl, arith}
 use Rattle.model.specs.Trees.{Tree, missing, mark, node, Forest, empty, child, names, nodes}
 use Rattle.model.specs.Meaning.{Meaning, class_under, allowed, Obeys, ObeyAll}
 use Rattle.model.specs.Faults.{or_else, fault_from, fault_among, NoFaultIsObeying}

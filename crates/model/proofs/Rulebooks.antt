@@ -1,9 +1,9 @@
 -- The two rulebooks keep the limits and both laws.
-use Rattle.std.proofs.Common.{◌≡◌, ℕ, zero, suc, ◌<◌, ◌≤◌, true, false, cond, not, ◌&&◌, ◌||◌, T, eqb, ltb, leb, List, [], ◌∷◌, length, Some, None, sym, refl, ◌∙◌, inl, inr, arith}
+use Rattle.std.proofs.Common.{◌≡◌, ℕ, zero, suc, ◌<◌, ◌≤◌, true, false, not, ◌&&◌, T, eqb, ltb, leb, List, [], ◌∷◌, length, Some, None, sym, refl, ◌∙◌, inl, inr, arith}
 use Rattle.std.proofs.lemmas.Bool.{eqb-true, eq-eqb, ne_eqb, and_parts, ltb-true, leb-true}
 use Rattle.model.specs.Trees.{Tree, node, empty, child, Among, Ascends, WellFormed}
 use Rattle.model.specs.Meaning.{Bounded, NamesHaveClasses, ClassesHaveTrees, Obeying}
-use Rattle.model.specs.Rulebooks.{ascending, up_to, four_consecutive, open_meaning, panel_allowed, plate_allows, plate_under, plate_meaning, rows_allowed, columns_allowed}
+use Rattle.model.specs.Rulebooks.{ascending, up_to, four_consecutive, open_meaning, panel_allowed, plate_allows, plate_under, plate_meaning}
 use Rattle.model.proofs.Lists.{below_trans}
 use Rattle.model.proofs.Place.{T_true}
 

@@ -2,14 +2,14 @@
 use Rattle.std.proofs.Common.{◌≡◌, ℕ, ◌⊎◌, [], ◌∷◌, ◌++◌, Some, Option, sym, refl, ap, subst, inl, inr, arith}
 use Rattle.model.specs.Trees.{Tree, missing, mark, node, Forest, empty, child, Path, at, Alike, Equal, marks, marks_all}
 use Rattle.model.specs.Meaning.{Meaning, class_under, Obeys, ObeyAll}
-use Rattle.model.specs.Round.{Outcome, outcome, round}
-use Rattle.model.specs.Safety.{InConflict, AtOrBelowConflict, DoesAsMuch}
+use Rattle.model.specs.Round.{Outcome, round}
+use Rattle.model.specs.Safety.{InConflict, AtOrBelowConflict}
 use Rattle.model.specs.Theorems.{EqualTreesAreOne, StepsAsTold, MarkedExactlyAtConflicts, OutcomeIsSafe, NoRivalDoesMore, OutcomeIsWellFormed}
 use Rattle.model.proofs.Trees.{same_one, one_same, equal_one, equal_refl, at_mark, at-++}
 use Rattle.model.proofs.Steps.{steps_law}
-use Rattle.model.proofs.Place.{Clear, not_marked}
+use Rattle.model.proofs.Place.{not_marked}
 use Rattle.model.proofs.Paths.{along, Fate, blocked, free, fate}
-use Rattle.model.proofs.Whole.{Parts, parts}
+use Rattle.model.proofs.Whole.{parts}
 
 pub equal_trees_are_one : EqualTreesAreOne
 equal_trees_are_one s t hs ht =

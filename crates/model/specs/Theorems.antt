@@ -2,7 +2,7 @@
 use Rattle.std.specs.Prelude.{◌≡◌, ℕ, ◌+◌, ◌≤◌, max, Bool, true, false, T, ◌⊎◌, ◌↔◌, List, Some, Option}
 use Rattle.model.specs.Trees.{Tree, missing, mark, kid, names_of, Among, Ascends, is_tree, Path, at, Equal, WellFormed, is_mark, nodes, marks, depth, Named, same}
 use Rattle.model.specs.Meaning.{Meaning, class_under, Obeys}
-use Rattle.model.specs.Round.{Outcome, outcome, settled, below, first_five, put_together, steps, round}
+use Rattle.model.specs.Round.{Outcome, settled, below, first_five, put_together, steps, round}
 use Rattle.model.specs.Safety.{Ready, field_next, bench_next, AtOrBelowConflict, Safe, DoesAsMuch}
 
 -- Well-formed trees are equal exactly if they are one tree, and `same` decides it.

@@ -1,4 +1,6 @@
 // The definitions of the round stand in specs/. Each function here states one theorem about them, by its contract.
+#![tactic(auto)]
+
 ghost use Rattle.model.specs.Theorems.{EqualTreesAreOne, NextNamesAsTold, StepsAsTold, MarkedExactlyAtConflicts, OutcomeIsSafe, NoRivalDoesMore, OutcomeIsWellFormed};
 ghost use Rattle.model.specs.Edits.{EditsKeepTheForm, EditsAreFound, EditsLeaveTheRest, EditsAreCounted, EditsBringNoMarks, EditsStayShallow, PutsObey, StrikesObey};
 ghost use Rattle.model.specs.Faults.{NoFaultIsObeying};

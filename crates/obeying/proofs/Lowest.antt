@@ -1,5 +1,5 @@
 -- The first fault is the lowest: it may be sought in any order.
-use Rattle.std.proofs.Common.{◌≡◌, ℕ, ◌+◌, ◌<◌, ◌≤◌, min, Bool, true, false, cond, Some, None, Option, sym, refl, ap, ◌∙◌, arith}
+use Rattle.std.proofs.Common.{◌≡◌, ℕ, ◌+◌, ◌<◌, ◌≤◌, Bool, true, false, cond, Some, None, Option, refl, ap, ◌∙◌, arith}
 use Rattle.model.specs.Trees.{Tree, missing, mark, node, Forest, empty, child, names, nodes, nodes_all}
 use Rattle.model.specs.Meaning.{Meaning, class_under, allowed}
 use Rattle.model.specs.Faults.{or_else, fault_from, fault_among}

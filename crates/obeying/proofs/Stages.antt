@@ -1,18 +1,18 @@
 -- The test of a tree by the list of its open nodes.
-use Rattle.std.proofs.Common.{◌≡◌, ℕ, zero, suc, ◌+◌, ◌-◌, ◌*◌, ◌<◌, ◌≤◌, max, T, List, [], ◌∷◌, ◌++◌, length, get_or, take, drop, set, Some, None, Option, sym, refl, ap, ◌∙◌, subst, append_assoc, append-nil, arith, length-append, length-drop, take-take, take_at, drop_at}
+use Rattle.std.proofs.Common.{◌≡◌, ℕ, zero, suc, ◌+◌, ◌-◌, ◌*◌, ◌<◌, ◌≤◌, List, [], ◌∷◌, ◌++◌, length, get_or, take, drop, set, None, Option, sym, refl, ap, ◌∙◌, subst, append_assoc, append-nil, arith, length-append, length-drop, take-take, take_at, drop_at}
 use Rattle.std.proofs.lemmas.List.{drop_more, take_more_set, drop-take}
-use Rattle.model.specs.Trees.{Tree, missing, mark, node, Forest, empty, child, names, present, WellFormed, WellFormedAll, nodes, nodes_all, marks, marks_all, depth, depth_all}
-use Rattle.model.specs.Meaning.{Meaning, class_under, allowed}
+use Rattle.model.specs.Trees.{Tree, missing, mark, node, Forest, empty, child, names, WellFormedAll, nodes_all, marks, marks_all, depth_all}
+use Rattle.model.specs.Meaning.{Meaning, class_under}
 use Rattle.model.specs.Faults.{first_fault}
 use Rattle.records.specs.declared.Entry.{Entry}
 use Rattle.records.specs.declared.View.{View}
 use Rattle.records.specs.Bytes.{entry, entry_at, entries}
-use Rattle.records.specs.Writing.{tell, tells}
+use Rattle.records.specs.Writing.{tells}
 use Rattle.records.specs.Files.{Shows}
 use Rattle.records.proofs.Walks.{pushed}
 use Rattle.obeying.specs.declared.Level.{Level}
 use Rattle.obeying.specs.Lower.{lower, own}
-use Rattle.obeying.proofs.Lowest.{lower_none, lower_assoc, lowest, lowest_among, lowest_is_first}
+use Rattle.obeying.proofs.Lowest.{lower_none, lower_assoc, lowest_among, lowest_is_first}
 
 -- An open node: its class and number, the names of the children that were read, and the children to come.
 pub data Stage : Type 0 where

@@ -1,4 +1,6 @@
 // Whether the tree of a record file obeys a rulebook, tested on the bytes.
+#![tactic(auto)]
+
 ghost use Rattle.std.specs.Prelude.{◌≡◌, ℕ, ◌<◌, Some, Ok};
 ghost use Rattle.model.specs.Trees.{Tree, marks};
 ghost use Rattle.model.specs.Meaning.{class_under as class_under, class_at as class_at, allowed as is_allowed};

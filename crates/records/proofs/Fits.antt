@@ -1,7 +1,7 @@
 -- Trees that a file can hold, and the two laws.
-use Rattle.std.proofs.Common.{◌≡◌, ℕ, zero, suc, ◌+◌, ◌-◌, ◌*◌, ◌^◌, ◌<◌, ◌≤◌, max, Bool, true, false, cond, ◌&&◌, ◌||◌, T, eqb, ltb, leb, List, [], ◌∷◌, ◌++◌, length, get_or, drop, Ok, Err, Result, sym, refl, ap, ◌∙◌, subst, arith, ltb→lt, lt→ltb, length-drop, drop-drop}
+use Rattle.std.proofs.Common.{◌≡◌, ℕ, zero, suc, ◌+◌, ◌-◌, ◌*◌, ◌^◌, ◌<◌, ◌≤◌, Bool, true, false, cond, ◌&&◌, ◌||◌, T, eqb, ltb, leb, List, [], ◌∷◌, length, get_or, drop, Ok, Err, Result, sym, refl, ap, ◌∙◌, subst, arith, ltb→lt, lt→ltb, drop-drop}
 use Rattle.std.proofs.lemmas.List.{drop_all}
-use Rattle.std.proofs.lemmas.Bool.{eqb-true, eq-eqb, le-leb, leb-true, ltb-true, ltb-false, lt-ltb, le-ltb}
+use Rattle.std.proofs.lemmas.Bool.{eqb-true, eq-eqb, le-leb, leb-true, ltb-true, ltb-false, lt-ltb}
 use Rattle.records.specs.declared.Entry.{Entry}
 use Rattle.records.specs.declared.TreeKind.{TreeKind}
 use Rattle.records.specs.declared.Wanted.{Wanted}
@@ -11,12 +11,12 @@ use Rattle.refusals.specs.declared.Refusal.{Refusal}
 use Rattle.refusals.specs.declared.Reason.TheVariants.{Short, Trailer, Count}
 use Rattle.model.specs.Trees.{Tree, missing, mark, node, Forest, empty, child, names, present, Below, Ascends, WellFormed, WellFormedAll, Named, NamedAll, is_name, nodes, nodes_all, marks, marks_all, depth, depth_all}
 use Rattle.records.specs.Bytes.{two_bytes, four_bytes, entry, entry_at, entries, put_entry, put_all, tree_code}
-use Rattle.records.specs.Reading.{no, then, Elder, root, first, after, named, may_mark, may_miss, plain, right, planted, Grown, grown, read, closed, whole, says, sealed, tail_at, records_of, view_of, viewed}
-use Rattle.records.specs.Writing.{tell, tells, put_tail, written}
+use Rattle.records.specs.Reading.{no, then, Elder, root, first, after, named, may_miss, grown, read, closed, whole, says, sealed, tail_at, records_of, view_of, viewed}
+use Rattle.records.specs.Writing.{tell, tells, put_tail}
 use Rattle.records.specs.Files.{Fits, EndsWith, Shows, Bytes, WrittenIsRead, ReadIsWritten}
 use Rattle.records.proofs.Walks.{length_entries}
-use Rattle.records.proofs.Bytes.{Small, Eight, decode, decode_all, encode, encode_all, length_put, behind_put}
-use Rattle.records.proofs.Laws.{Holds, cond_holds, Grows, Rises, Sits, Told, whole_told, length_tell, length_tells, says_whole}
+use Rattle.records.proofs.Bytes.{Small, decode, decode_all, encode, encode_all, behind_put}
+use Rattle.records.proofs.Laws.{Holds, cond_holds, Grows, Rises, Sits, Told, whole_told, length_tell, says_whole}
 
 abbrev Heads : Elder → List ℕ → Type 0
 Heads el [] = Unit {0}

@@ -1,11 +1,10 @@
 -- A walk over records, by the stack of open nodes.
-use Rattle.std.proofs.Common.{◌≡◌, ℕ, zero, suc, ◌+◌, ◌-◌, ◌*◌, ◌<◌, ◌≤◌, Bool, true, false, cond, ◌&&◌, eqb, ltb, leb, List, [], ◌∷◌, length, get_or, drop, set, Ok, Err, Result, sym, refl, ap, ◌∙◌, subst, add-one, arith, length-drop, length-set, get_or-drop, get_or-set_same, drop-drop, drop-set-lt}
+use Rattle.std.proofs.Common.{◌≡◌, ℕ, zero, suc, ◌+◌, ◌-◌, ◌*◌, ◌<◌, ◌≤◌, Bool, true, false, cond, ◌&&◌, leb, List, [], ◌∷◌, length, get_or, drop, set, Ok, Err, Result, sym, refl, ap, ◌∙◌, subst, add-one, arith, length-drop, length-set, get_or-set_same, drop-set-lt}
 use lib.Dec.{leb-zero}
 use Rattle.std.proofs.lemmas.List.{drop_more}
 use Rattle.std.proofs.lemmas.Bool.{eq-eqb, ne_eqb, le-leb, lt-leb}
 use Rattle.records.specs.declared.Entry.{Entry}
 use Rattle.records.specs.declared.Open.{Open}
-use Rattle.records.specs.declared.TreeKind.{TreeKind}
 use Rattle.records.specs.declared.Wanted.{Wanted}
 use Rattle.records.specs.declared.View.{View}
 use Rattle.refusals.specs.declared.Refusal.{Refusal}

@@ -1,5 +1,5 @@
 -- Which bytes are the file of a tree, said without reading them.
-use Rattle.std.specs.Prelude.{◌≡◌, ℕ, ◌+◌, ◌-◌, ◌*◌, ◌<◌, ◌≤◌, Bool, true, ◌||◌, T, List, [], length, drop, Ok, slice_index}
+use Rattle.std.specs.Prelude.{◌≡◌, ℕ, ◌+◌, ◌-◌, ◌*◌, ◌<◌, ◌≤◌, true, ◌||◌, T, List, [], length, drop, Ok, slice_index}
 use Rattle.model.specs.Trees.{Tree, WellFormed, Named, is_name, present, nodes, depth, marks}
 use Rattle.records.specs.Reading.{says, may_miss, most_deep, most_nodes}
 use Rattle.records.specs.Bytes.{entries}

@@ -1,3 +1,5 @@
+#![tactic(auto)]
+
 ghost use Rattle.std.specs.Prelude.{◌≡◌, ℕ, ◌+◌, ◌-◌, ◌*◌, ◌<◌, ◌≤◌, length, Ok};
 ghost use Rattle.model.specs.Trees.{Tree as TheTree};
 ghost use Rattle.records.specs.Bytes.{two_bytes, four_bytes, entry_at, entries, node_code, tree_code};

@@ -1,4 +1,6 @@
 // The program `round`: reads the three records of a panel and prints their trees, or the first reason to refuse them.
+#![tactic(auto)]
+
 ghost use Rattle.std.specs.Prelude.{◌≡◌, ◌≤◌, length, IfOk};
 ghost use Rattle.refusals.specs.declared.Whose.TheVariants.{Field, Bench};
 ghost use Rattle.records.specs.Reading.{says};

@@ -1,4 +1,6 @@
 // What a rulebook is, and the two rulebooks: Open and Plate.
+#![tactic(auto)]
+
 ghost use Rattle.std.specs.Prelude.{◌≡◌};
 ghost use Rattle.model.specs.Meaning.{Meaning, Bounded, NamesHaveClasses, ClassesHaveTrees};
 

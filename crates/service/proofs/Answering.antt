@@ -1,6 +1,6 @@
 -- The answers of put and strike, test by test.
-use Rattle.std.proofs.Common.{◌≡◌, ℕ, ◌≤◌, Bool, true, false, List, [], ◌∷◌, length, Some, Ok, Err, Option, Result, sym, refl, ap, ◌∙◌, subst, arith}
-use Rattle.model.specs.Trees.{Tree as TheTree, missing, Path, present, at, marks}
+use Rattle.std.proofs.Common.{◌≡◌, ℕ, Bool, true, false, List, [], ◌∷◌, length, Some, Ok, Err, Option, Result, sym, refl, ap, ◌∙◌, subst}
+use Rattle.model.specs.Trees.{Tree as TheTree, missing, Path, present, marks}
 use Rattle.model.specs.Meaning.{Meaning, class_at}
 use Rattle.model.specs.Edits.{set_at}
 use Rattle.model.proofs.Place.{true_T}

@@ -9,7 +9,7 @@ use Rattle.area.specs.declared.types.Area.{Area}
 use Rattle.area.specs.declared.regions.Table.{Table}
 use Rattle.area.specs.declared.regions.Table.TheVariants.{Archive, Field, Bench}
 use Rattle.area.specs.declared.regions.Region.{Region}
-use Rattle.area.specs.declared.regions.Region.TheVariants.{Tree, New}
+use Rattle.area.specs.declared.regions.Region.TheVariants.{Tree}
 use Rattle.merging.specs.declared.types.Sizes.{Sizes}
 use Rattle.editing.proofs.Carried.{carried_holds}
 use Rattle.ledger.specs.declared.Side.{Side}

@@ -1,12 +1,12 @@
 -- What the calls of a file rely on, and what they leave.
-use Rattle.std.proofs.Common.{◌≡◌, ℕ, List, [], ◌∷◌, Some, Ok, Err, Result, sym, refl, ap, ◌∙◌, subst, arith}
+use Rattle.std.proofs.Common.{◌≡◌, ℕ, List, Some, Ok, Err, Result, sym, refl, ap, ◌∙◌, subst, arith}
 use mathlib.Core.Logic.{∥∥₁_elim}
-use Rattle.model.specs.Trees.{Tree as TheTree, missing, marks}
+use Rattle.model.specs.Trees.{missing}
 use Rattle.model.specs.Meaning.{Meaning, Obeys}
 use Rattle.model.specs.Round.{Outcome, outcome}
 use Rattle.model.proofs.Theorems.{no_marks}
 use Rattle.refusals.specs.declared.Refusal.{Refusal}
-use Rattle.area.specs.Views.{view, limit}
+use Rattle.area.specs.Views.{view}
 use Rattle.area.specs.declared.types.Area.{Area}
 use Rattle.area.specs.declared.regions.Table.{Table}
 use Rattle.area.specs.declared.regions.Table.TheVariants.{Archive, Field, Bench}

@@ -1,5 +1,5 @@
 -- A copy that is written anew.
-use Rattle.std.proofs.Common.{◌≡◌, ℕ, ◌+◌, ◌-◌, ◌*◌, ◌<◌, ◌≤◌, max, true, eqb, List, [], ◌∷◌, length, take, drop, Ok, Err, sym, refl, ap, ◌∙◌, subst, arith}
+use Rattle.std.proofs.Common.{◌≡◌, ℕ, ◌+◌, ◌-◌, ◌*◌, ◌<◌, ◌≤◌, true, eqb, List, [], ◌∷◌, length, take, Ok, Err, sym, refl, ap, subst, arith}
 use Rattle.std.proofs.lemmas.Bool.{le-leb, lt-leb, cond-true, cond-false, cond_both}
 use Rattle.model.specs.Trees.{Tree as TheTree, missing, mark, node, Forest, empty, child, find, kid, Path, at, WellFormed, nodes, nodes_all, marks, depth}
 use Rattle.model.specs.Edits.{set_at, HasParent}

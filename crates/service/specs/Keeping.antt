@@ -1,6 +1,6 @@
 -- Three trees in the regions of an area.
-use Rattle.std.specs.Prelude.{◌≡◌, ℕ, ◌≤◌, Ok, Err, Result}
-use Rattle.model.specs.Trees.{Tree as TheTree, nodes, marks}
+use Rattle.std.specs.Prelude.{◌≡◌, ◌≤◌, Ok, Err, Result}
+use Rattle.model.specs.Trees.{nodes, marks}
 use Rattle.model.specs.Round.{Outcome, outcome}
 use Rattle.refusals.specs.declared.Refusal.{Refusal}
 use Rattle.stored.specs.Words.{Holds}

@@ -1,4 +1,6 @@
 // The service file: three trees in one area, and the rounds that are drawn from them.
+#![tactic(auto)]
+
 ghost use Rattle.std.specs.Prelude.{◌≡◌, ℕ, take, Ok, vec_len};
 ghost use Rattle.refusals.specs.Output.{told as told_length, left as left_in};
 ghost use Rattle.records.specs.Writing.{written};

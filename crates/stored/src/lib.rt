@@ -1,4 +1,6 @@
 // Reading trees that stand in words.
+#![tactic(auto)]
+
 ghost use Rattle.std.specs.Prelude.{◌≡◌, ◌+◌, [], drop};
 ghost use Rattle.model.specs.Trees.{Tree, Forest, nodes, nodes_all, marks, is_mark, same as same_trees};
 ghost use Rattle.stored.specs.Words.{Stored, Stands, Standing, Holds, emit, below};

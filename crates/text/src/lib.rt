@@ -1,4 +1,6 @@
 // The text form of stored trees and of refusals, and the report of a round.
+#![tactic(auto)]
+
 ghost use Rattle.std.specs.Prelude.{◌≡◌, ◌+◌, ◌*◌, ◌^◌, ◌<◌, ◌≤◌, [], ◌∷◌, ◌++◌, length, if◌then◌else◌, Ok, Err, decimal, nat_le};
 ghost use Rattle.refusals.specs.declared.Reason.TheVariants.{Output};
 ghost use Rattle.refusals.specs.declared.Whose.TheVariants.{Nobody};

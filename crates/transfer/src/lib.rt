@@ -1,4 +1,6 @@
 // Trees go from the bytes of record files into words, and from words into record files.
+#![tactic(auto)]
+
 ghost use Rattle.std.specs.Prelude.{◌≡◌, ◌+◌, ◌*◌, ◌≤◌, [], ◌∷◌, length, drop};
 ghost use Rattle.model.specs.Trees.{Tree, Forest, names, nodes_all, Named, is_name};
 ghost use Rattle.records.specs.Bytes.{put_two, put_entry, put_all};

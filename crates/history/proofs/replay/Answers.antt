@@ -1,9 +1,9 @@
-use Rattle.std.proofs.Common.{◌≡◌, vec_items, vec_len, sym, refl, ap, ◌∙◌, subst, rules}
+use Rattle.std.proofs.Common.{vec_len, sym, ap, ◌∙◌, subst, rules}
 use Rattle.area.specs.Layout.{limit_of}
-use Rattle.ledger.specs.Ledger.{start, stands, answers, held}
+use Rattle.ledger.specs.Ledger.{stands, answers, held}
 use Rattle.ledger.specs.Histories.{CopiesObey}
 use Rattle.ledger.proofs.Histories.{copies_obey, rounds_are_marked_at_conflicts, rounds_are_safe, no_rival_does_more}
-use Rattle.service.specs.Service.{limit, of_file}
+use Rattle.service.specs.Service.{of_file}
 use Rattle.history.proofs.Runs.{goes_on, ends}
 use Rattle.history.proofs.replay.Goals as goal
 

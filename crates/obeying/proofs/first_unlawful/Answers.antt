@@ -1,6 +1,6 @@
-use Rattle.std.proofs.Common.{◌≡◌, ◌+◌, ◌*◌, ◌<◌, ◌≤◌, length, refl, ap, arith, length-set}
+use Rattle.std.proofs.Common.{refl, ap, arith, length-set}
 use Rattle.records.specs.declared.Entry.{Entry}
-use Rattle.obeying.proofs.Stages.{none_there, begun, view, first_within, closed, opened, finished, Top, Child}
+use Rattle.obeying.proofs.Stages.{none_there, begun, view, first_within, closed, opened, finished}
 use Rattle.obeying.proofs.first_unlawful.Goals as goal
 
 pub returns-then-view-eq0 : goal.returns-then-view-eq0

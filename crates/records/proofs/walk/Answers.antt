@@ -1,4 +1,4 @@
-use Rattle.std.proofs.Common.{◌≡◌, ◌-◌, length, Err, sym, refl, ap, ◌∙◌, subst, add-one, arith, length-set}
+use Rattle.std.proofs.Common.{Err, sym, refl, ap, ◌∙◌, arith, length-set}
 use Rattle.records.proofs.Walks.{view, popped, ran_out, too_deep, tested, wrong, stepped, left_over, all_read, begun, root_wrong, root_deep, both, neither, not_plain}
 use Rattle.records.proofs.walk.Goals as goal
 use Rattle.records.proofs.walk.Goals.{then-not-is_plain-via-then-not-is_plain, then-not-is_plain-via-else-not-is_plain+then-e-top}

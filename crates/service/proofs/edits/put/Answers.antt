@@ -1,16 +1,13 @@
-use Rattle.std.proofs.Common.{length, Ok, Err, sym, refl, ap, ◌∙◌, subst, arith}
+use Rattle.std.proofs.Common.{length, Ok, Err, sym, refl, ap, ◌∙◌}
 use Rattle.std.proofs.lemmas.Result.{err_from_is_err_and}
-use Rattle.model.specs.Trees.{nodes}
 use Rattle.model.specs.Edits.{set_at}
 use Rattle.refusals.specs.declared.Whose.TheVariants as whose
-use Rattle.stored.specs.Words.{Holds}
-use Rattle.area.specs.Views.{view, limit}
-use Rattle.area.specs.declared.regions.Region.TheVariants.{Tree}
-use Rattle.area.proofs.Laws.{also, wider}
+use Rattle.area.specs.Views.{limit}
+use Rattle.area.proofs.Laws.{also}
 use Rattle.obeying.proofs.Copies.{passed}
 use Rattle.loading.specs.Loads.{within}
 use Rattle.ledger.specs.Answers.{copy, whose_of}
-use Rattle.service.specs.Edits.{editable, table_of}
+use Rattle.service.specs.Edits.{editable}
 use Rattle.service.specs.declared.types.Change.TheVariants.{Put}
 use Rattle.service.proofs.Chains.{passed_ok, passed_err, viewed_err, counted_few, counted_many}
 use Rattle.service.proofs.Kept.{copy_unmarked, kept_with, still_kept, refused_call, done_call}

@@ -1,9 +1,8 @@
-use Rattle.std.proofs.Common.{[], ◌∷◌, refl, subst, arith}
+use Rattle.std.proofs.Common.{subst}
 use Rattle.model.specs.Edits.{set_at}
 use Rattle.stored.specs.Words.{Holds}
-use Rattle.area.specs.Views.{view, Only}
-use Rattle.area.specs.declared.regions.Region.TheVariants.{Tree, New}
-use Rattle.area.proofs.Laws.{also, wider}
+use Rattle.area.specs.Views.{view}
+use Rattle.area.specs.declared.regions.Region.TheVariants.{Tree}
 use Rattle.service.proofs.Renewing.{edited_of, renewed, renew_only}
 use Rattle.service.proofs.edits.renew.Goals as goal
 

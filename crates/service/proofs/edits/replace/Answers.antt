@@ -1,4 +1,4 @@
-use Rattle.std.proofs.Common.{◌≡◌, ◌+◌, ◌-◌, ◌≤◌, Ok, Err, sym, refl, ap, ◌∙◌, subst, arith}
+use Rattle.std.proofs.Common.{◌+◌, ◌-◌, ◌≤◌, Ok, Err, sym, ap, ◌∙◌, subst, arith}
 use Rattle.model.specs.Trees.{nodes}
 use Rattle.model.specs.Edits.{set_at}
 use Rattle.refusals.specs.declared.Reason.TheVariants.{Crowded}

@@ -1,4 +1,4 @@
-use Rattle.std.proofs.Common.{◌≡◌, length, vec_items, sym, refl, ap, ◌∙◌}
+use Rattle.std.proofs.Common.{◌≡◌, length, vec_items, sym, ◌∙◌}
 use Rattle.history.specs.Desks.{first_refused, replay_report, state_of}
 use Rattle.history.proofs.Runs.{length_told, length_refused, fills}
 use Rattle.history.proofs.types.Replay.text.Goals.{in-Ok, in-Err}

@@ -1,8 +1,7 @@
-use Rattle.std.proofs.Common.{◌≡◌, refl, ap, ◌∙◌}
+use Rattle.std.proofs.Common.{refl, ap, ◌∙◌}
 use Rattle.area.specs.declared.regions.Region.TheVariants.{Tree}
 use Rattle.ledger.specs.Ledger.{drawn}
 use Rattle.ledger.specs.Answers.{draw_answer}
-use Rattle.service.specs.Keeping.{trees_in}
 use Rattle.service.specs.Service.{trees, limit, outcome_in}
 use Rattle.service.proofs.Once.{kept_trees, kept_itself, open_keeps}
 use Rattle.service.proofs.Kept.{still_kept}

@@ -1,5 +1,4 @@
 use Rattle.std.proofs.Common.{ap}
-use Rattle.area.specs.declared.regions.Region.TheVariants.{Tree}
 use Rattle.ledger.specs.Ledger.{file}
 use Rattle.service.proofs.Once.{kept_trees, kept_itself}
 use Rattle.service.proofs.Methods.{nothing_kept}

@@ -1,4 +1,4 @@
-use Rattle.std.proofs.Common.{refl, ap, ◌∙◌}
+use Rattle.std.proofs.Common.{refl, ap}
 use Rattle.area.specs.declared.regions.Region.TheVariants.{Tree}
 use Rattle.ledger.specs.Ledger.{file}
 use Rattle.service.specs.Service.{before}

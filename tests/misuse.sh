@@ -1,17 +1,15 @@
 #!/bin/sh
 # Misuse that does not build: each edit of tests/misuse is applied to the crate `history` in a copy of the repository, and the compiler must refuse
-# it for the use of a value that was moved. Wants the proved libraries in target/. The last line counts the edits.
+# it for the use of a value that was moved. The last line counts the edits.
 cd "$(dirname "$0")/.." || exit 2
 refused=0
 work=$(mktemp -d) || exit 2
 trap 'rm -rf "$work"' EXIT
-mkdir "$work/target"
-cp -r crates.txt crates "$work/"
-cp -r target/rlib target/stamp "$work/target/" || exit 2
+tar -cf - --exclude=out crates.txt crates | tar -xf - -C "$work" || exit 2
 source=$work/crates/history/src/lib.rt
 
 check() {
-    (cd "$work" && rt check history) >"$work/log" 2>&1
+    (cd "$work/crates/history" && rt check) >"$work/log" 2>&1
 }
 
 check || { cat "$work/log"; echo 'misuse: the crate is refused as it stands'; exit 1; }

@@ -1,8 +1,8 @@
 #!/bin/sh
-# Runs the program on the panels of tests/panels.txt and compares what it prints, byte for byte. The last line counts them.
-# usage: tests/panels.sh PROGRAM
+# Runs a program on the panels of a file and compares what it prints, byte for byte. The last line counts them.
+# usage: tests/panels.sh PROGRAM PANELS
 program=$1
-here=$(cd "$(dirname "$0")" && pwd)
+panels=$2
 work=$(mktemp -d) || exit 2
 trap 'rm -rf "$work"' EXIT
 passed=0
@@ -44,7 +44,7 @@ while read -r word rest; do
     archive | field | bench) record "$word" $rest ;;
     '>') printf '%s\n' "$rest" >>"$work/want" ;;
     esac
-done <"$here/panels.txt"
+done <"$panels"
 [ -n "$name" ] || { echo 'panels: none found'; exit 1; }
 run
 

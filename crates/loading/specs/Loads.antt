@@ -9,7 +9,7 @@ use Rattle.refusals.specs.declared.Whose.{Whose}
 use Rattle.refusals.specs.declared.Whose.TheVariants as whose
 use Rattle.refusals.specs.Numbers.{refused}
 use Rattle.records.specs.declared.Wanted.{Wanted}
-use Rattle.records.specs.declared.TreeKind.TheVariants as tree-kind
+use Rattle.records.specs.declared.TreeKind.TheVariants as tree_kind
 use Rattle.records.specs.Reading.{says, then, view_of}
 use Rattle.obeying.specs.Lawful.{lawful, copy_of}
 use Rattle.stored.specs.Words.{Holds}
@@ -24,7 +24,7 @@ abbrev pub within : ℕ → Whose → Tree → Result Tree Refusal
 within l w t = cond (nat_le (nodes t) l) (Ok t) (Err (refused Crowded w (nodes t)))
 
 abbrev pub an_archive : Wanted
-an_archive = record { kind = tree-kind.Archive; whose = whose.Archive; depth = 0 }
+an_archive = record { kind = tree_kind.Archive; whose = whose.Archive; depth = 0 }
 
 abbrev pub archive_loaded : ℕ → List ℕ → Result Tree Refusal
 archive_loaded l bs = then (says bs an_archive) (within l whose.Archive)

@@ -9,9 +9,9 @@ use Rattle.refusals.specs.declared.Refusal.{Refusal}
 use Rattle.refusals.specs.Numbers.{refused}
 use Rattle.records.specs.Bytes.{two_bytes, four_bytes, entries, node_code, tree_code, version}
 use Rattle.records.specs.declared.Entry.{Entry}
-use Rattle.records.specs.declared.NodeKind.TheVariants as node-kind
+use Rattle.records.specs.declared.NodeKind.TheVariants as node_kind
 use Rattle.records.specs.declared.TreeKind.{TreeKind}
-use Rattle.records.specs.declared.TreeKind.TheVariants as tree-kind
+use Rattle.records.specs.declared.TreeKind.TheVariants as tree_kind
 use Rattle.records.specs.declared.Wanted.{Wanted}
 use Rattle.records.specs.declared.View.{View}
 
@@ -44,20 +44,20 @@ named first n = true
 named (after m) n = nat_lt m n
 
 abbrev pub may_mark : TreeKind → Bool
-may_mark tree-kind.Copy = false
-may_mark tree-kind.Archive = true
+may_mark tree_kind.Copy = false
+may_mark tree_kind.Archive = true
 
 -- A record that is right but for its name: a node, or in an archive a mark without children.
 abbrev pub plain : TreeKind → Entry → Bool
 plain k e =
     (e.last == 0)
-    && (e.kind == node_code node-kind.Tree || (e.kind == node_code node-kind.Mark && (may_mark k && e.children == 0)))
+    && (e.kind == node_code node_kind.Tree || (e.kind == node_code node_kind.Mark && (may_mark k && e.children == 0)))
 
 abbrev pub right : TreeKind → Elder → Entry → Bool
 right k el e = plain k e && named el e.name
 
 abbrev pub planted : Entry → Forest → Tree
-planted e f = cond (e.kind == node_code node-kind.Mark) mark (node f)
+planted e f = cond (e.kind == node_code node_kind.Mark) mark (node f)
 
 -- The offset of the first of the records that are left, or of the trailer, at `end`, where none is left.
 abbrev pub here : ℕ → List Entry → ℕ

@@ -3,15 +3,15 @@ use Rattle.std.specs.Prelude.{ℕ, ◌+◌, ◌*◌, List, [], ◌∷◌, length
 use Rattle.model.specs.Trees.{Tree, missing, mark, node, Forest, empty, child, names, nodes}
 use Rattle.records.specs.Bytes.{entry, put_entry, put_all, node_code, tree_code, version}
 use Rattle.records.specs.declared.Entry.{Entry}
-use Rattle.records.specs.declared.NodeKind.TheVariants as node-kind
+use Rattle.records.specs.declared.NodeKind.TheVariants as node_kind
 use Rattle.records.specs.declared.TreeKind.{TreeKind}
 
 -- The records of a tree under a name, and then others: a node, then its children, each with all below it. What is missing has none.
 abbrev mutual
   pub tell : Tree → ℕ → List Entry → List Entry
   tell missing n rest = rest
-  tell mark n rest = entry n 0 (node_code node-kind.Mark) 0 ∷ rest
-  tell (node f) n rest = entry n (length (names f)) (node_code node-kind.Tree) 0 ∷ tells f rest
+  tell mark n rest = entry n 0 (node_code node_kind.Mark) 0 ∷ rest
+  tell (node f) n rest = entry n (length (names f)) (node_code node_kind.Tree) 0 ∷ tells f rest
 
   pub tells : Forest → List Entry → List Entry
   tells empty rest = rest

@@ -6,14 +6,14 @@ use Rattle.refusals.specs.declared.Whose.{Whose}
 use Rattle.refusals.specs.declared.Whose.TheVariants.{Archive}
 use Rattle.refusals.specs.Output.{told, left}
 use Rattle.records.specs.declared.Wanted.{Wanted}
-use Rattle.records.specs.declared.TreeKind.TheVariants as tree-kind
+use Rattle.records.specs.declared.TreeKind.TheVariants as tree_kind
 use Rattle.model.specs.Rulebooks.{plate_meaning}
 use Rattle.records.specs.Reading.{says, then}
 use Rattle.obeying.specs.Lawful.{lawful, copy_of}
 use Rattle.text.specs.Text.{text}
 
 abbrev pub an_archive : Wanted
-an_archive = record { kind = tree-kind.Archive; whose = Archive; depth = 0 }
+an_archive = record { kind = tree_kind.Archive; whose = Archive; depth = 0 }
 
 -- What the file of a copy says, held to plate.
 abbrev pub a_copy : Whose → List ℕ → Result Tree Refusal

@@ -69,7 +69,7 @@ begins_with bs old n = go (leb (length bs) (length old))
 pub read_back : (t : Table) {s : Outcome} {ws : List ℕ} {m : ℕ} → Holds ws m (pick t s) → Named is_name (pick t s) → Unmarked s
     → {k : TreeKind} → k ≡ kind_of t → (old : List ℕ) {new : List ℕ} {r : Result ℕ Refusal} → r ≡ output.told (written (pick t s) k) old
     → new ≡ output.left (written (pick t s) k) old → (n : ℕ) → r ≡ Ok n → says (take n new) (wanted_of t) ≡ Ok (pick t s)
-read_back t {s} h narrow unmarked {k} is-kind old answer after n e =
+read_back t {s} h narrow unmarked {k} is_kind old answer after n e =
     let u = pick t s in
     let bs = written u k in
     let long : length bs ≡ 8 * nodes u + 8 = omega (arith, size_of h k, h.count) in
@@ -84,4 +84,4 @@ read_back t {s} h narrow unmarked {k} is-kind old answer after n e =
       narrow = narrow;
       unmarked = λ c. unmarked t (sym (wants_kind t) ∙ c);
     }
-    record { long = omega arith; file = ap (λ i. drop i bs) start ∙ ap (written u) (is-kind ∙ sym (wants_kind t)) }
+    record { long = omega arith; file = ap (λ i. drop i bs) start ∙ ap (written u) (is_kind ∙ sym (wants_kind t)) }

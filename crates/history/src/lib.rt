@@ -4,7 +4,7 @@
 ghost use Rattle.std.specs.Prelude.{◌≡◌, IfOk, vec_len};
 ghost use Rattle.refusals.specs.Output.{told as told_length, left as left_in};
 ghost use Rattle.area.specs.Layout.{limit_of};
-ghost use Rattle.ledger.specs.Ledger.{start, step as step_of_lem, answer as answer_of, stands, answers as AnswersOf, held};
+ghost use Rattle.ledger.specs.Ledger.{start, step as step_of, answer as answer_of, stands, answers as answers_of, held};
 ghost use Rattle.ledger.specs.Histories.{CopiesObey, RoundsAreMarkedAtConflicts, RoundsAreSafe, NoRivalDoesMore};
 ghost use Rattle.service.specs.Service.{limit, of_file, of_round, round_limit};
 ghost use Rattle.history.specs.Desks.{state_of, limit_of as desk_limit, refused_in, first_refused, replay_report};
@@ -22,7 +22,7 @@ pub use types::{Desk, Replay};
 
 // A call meets a file. One that a round would need does nothing.
 fn on_file<R: Rulebook>(rules: &R, mut file: File, call: Call) -> (Desk, Answer)
-    ensures state { state_of result.0 ≡ step_of_lem (R.meaning rules.now) (limit file) (of_file file) call.entry }
+    ensures state { state_of result.0 ≡ step_of (R.meaning rules.now) (limit file) (of_file file) call.entry }
     ensures answer { result.1 ≡ answer_of (R.meaning rules.now) (limit file) (of_file file) call.entry }
     ensures limit { desk_limit result.0 ≡ limit file }
 {
@@ -58,7 +58,7 @@ fn on_file<R: Rulebook>(rules: &R, mut file: File, call: Call) -> (Desk, Answer)
 
 // A call meets a round. Only adopt and drop do anything.
 fn on_round<R: Rulebook>(rules: &R, round: Round, call: Call) -> (Desk, Answer)
-    ensures state { state_of result.0 ≡ step_of_lem (R.meaning rules.now) (round_limit round) (of_round round) call.entry }
+    ensures state { state_of result.0 ≡ step_of (R.meaning rules.now) (round_limit round) (of_round round) call.entry }
     ensures answer { result.1 ≡ answer_of (R.meaning rules.now) (round_limit round) (of_round round) call.entry }
     ensures limit { desk_limit result.0 ≡ round_limit round }
 {
@@ -71,7 +71,7 @@ fn on_round<R: Rulebook>(rules: &R, round: Round, call: Call) -> (Desk, Answer)
 
 // One call.
 fn step<R: Rulebook>(rules: &R, desk: Desk, call: Call) -> (Desk, Answer)
-    ensures state { state_of result.0 ≡ step_of_lem (R.meaning rules.now) (desk_limit desk) (state_of desk) call.entry }
+    ensures state { state_of result.0 ≡ step_of (R.meaning rules.now) (desk_limit desk) (state_of desk) call.entry }
     ensures answer { result.1 ≡ answer_of (R.meaning rules.now) (desk_limit desk) (state_of desk) call.entry }
     ensures limit { desk_limit result.0 ≡ desk_limit desk }
 {
@@ -93,7 +93,7 @@ pub fn replay<R: Rulebook>(
     calls: &[Call],
 ) -> Result<Replay, AllocError>
     ensures stands_as_the_ledger_says { IfOk result (λ x. state_of x.desk ≡ stands (R.meaning rules.now) (limit_of (vec_len words)) start calls.now) }
-    ensures answers_as_the_ledger_says { IfOk result (λ x. x.answers.items ≡ AnswersOf (R.meaning rules.now) (limit_of (vec_len words)) start calls.now) }
+    ensures answers_as_the_ledger_says { IfOk result (λ x. x.answers.items ≡ answers_of (R.meaning rules.now) (limit_of (vec_len words)) start calls.now) }
     ensures both_copies_obey { IfOk result (λ x. CopiesObey (R.meaning rules.now) (held (state_of x.desk))) }
     ensures rounds_are_marked_at_conflicts { RoundsAreMarkedAtConflicts (R.meaning rules.now) (limit_of (vec_len words)) calls.now }
     ensures rounds_are_safe { RoundsAreSafe (R.meaning rules.now) (limit_of (vec_len words)) calls.now }

@@ -3,7 +3,7 @@
 
 ghost use Rattle.std.specs.Prelude.{◌≡◌, ℕ, ◌<◌, Some, Ok};
 ghost use Rattle.model.specs.Trees.{Tree, marks};
-ghost use Rattle.model.specs.Meaning.{class_under as class_under, class_at as class_at, allowed as is_allowed};
+ghost use Rattle.model.specs.Meaning.{class_under, class_at, allowed as is_allowed};
 ghost use Rattle.model.specs.Faults.{first_fault};
 ghost use Rattle.records.specs.Files.{Shows};
 ghost use Rattle.records.specs.Reading.{says, then, viewed, view_of};

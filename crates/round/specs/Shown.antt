@@ -1,5 +1,5 @@
 -- The text of the tree of a record file.
-use Rattle.std.specs.Prelude.{ℕ, List, Some, Ok, Err, Result}
+use Rattle.std.specs.Prelude.{◌≡◌, ℕ, List, Some, Ok, Err, Result}
 use Rattle.model.specs.Trees.{Tree}
 use Rattle.refusals.specs.declared.Refusal.{Refusal}
 use Rattle.refusals.specs.declared.Whose.{Whose}
@@ -32,3 +32,8 @@ output_shown (Err e) old = old
 -- The first of three refusals, if there is one.
 abbrev pub all_shown : Result ℕ Refusal → Result ℕ Refusal → Result ℕ Refusal → Result (Unit {0}) Refusal
 all_shown a f b = then a (λ _. then f (λ _. then b (λ _. Ok tt)))
+
+-- Bytes are the text of the tree that a file says, if it says one.
+abbrev pub TextOf : Result Tree Refusal → List ℕ → Type 0
+TextOf (Ok t) bytes = bytes ≡ text t
+TextOf (Err e) bytes = Unit {0}

@@ -1,10 +1,10 @@
 // The program `round`: reads the three records of a panel and prints their trees, or the first reason to refuse them.
 #![tactic(auto)]
 
-ghost use Rattle.std.specs.Prelude.{◌≡◌, ◌≤◌, length, IfOk};
+ghost use Rattle.std.specs.Prelude.{◌≡◌, ◌≤◌, length, take, IfOk};
 ghost use Rattle.refusals.specs.declared.Whose.TheVariants.{Field, Bench};
 ghost use Rattle.records.specs.Reading.{says};
-ghost use Rattle.round.specs.Shown.{an_archive, a_copy, length_shown, all_shown};
+ghost use Rattle.round.specs.Shown.{an_archive, a_copy, length_shown, all_shown, TextOf};
 
 use panel::{archive_text, copy_text};
 use refusals::{Refusal, Whose};
@@ -68,7 +68,9 @@ impl Text {
         })
     }
 
-    fn shown(&self) -> &[u8] {
+    fn shown(&self) -> &[u8]
+        ensures { result.now ≡ take self.now.len self.now.bytes.items }
+    {
         let len = self.len.min(self.bytes.len());
         &self.bytes.as_slice()[0..len]
     }
@@ -91,7 +93,10 @@ fn describe(
     texts: &mut Texts,
 ) -> Result<(), Refusal>
     requires { 12288 ≤ length words.old }
-    ensures { result ≡ all_shown (length_shown (says archive.now an_archive) texts.old.archive.bytes.items) (length_shown (a_copy Field field.now) texts.old.field.bytes.items) (length_shown (a_copy Bench bench.now) texts.old.bench.bytes.items) }
+    ensures told { result ≡ all_shown (length_shown (says archive.now an_archive) texts.old.archive.bytes.items) (length_shown (a_copy Field field.now) texts.old.field.bytes.items) (length_shown (a_copy Bench bench.now) texts.old.bench.bytes.items) }
+    ensures archive { IfOk result (λ _. TextOf (says archive.now an_archive) (take texts.new.archive.len texts.new.archive.bytes.items)) }
+    ensures field { IfOk result (λ _. TextOf (a_copy Field field.now) (take texts.new.field.len texts.new.field.bytes.items)) }
+    ensures bench { IfOk result (λ _. TextOf (a_copy Bench bench.now) (take texts.new.bench.len texts.new.bench.bytes.items)) }
 {
     texts.archive.len = archive_text(archive, words, texts.archive.bytes.as_mut_slice())?;
     texts.field.len = copy_text(

@@ -6,8 +6,8 @@ use Rattle.std.proofs.lemmas.Bool.{eqb-true, eq-eqb}
 use Rattle.area.specs.Layout.{limit_of, slot, width}
 use Rattle.area.specs.Views.{equal, among, subset, view, limit, Only}
 use Rattle.area.specs.declared.types.Area.{Area}
-use Rattle.area.specs.declared.regions.Table.{Table}
-use Rattle.area.specs.declared.regions.Table.TheVariants.{Archive, Field, Bench}
+use Rattle.tables.specs.declared.Table.{Table}
+use Rattle.tables.specs.declared.Table.TheVariants.{Archive, Field, Bench}
 use Rattle.area.specs.declared.regions.Region.{Region}
 use Rattle.area.specs.declared.regions.Region.TheVariants.{Tree, New, Stack, Names}
 use Rattle.area.proofs.Parts.{impossible}

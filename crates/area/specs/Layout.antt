@@ -1,7 +1,7 @@
 -- Where each region lies. Starts and widths count words for each node of the limit, and all regions together take no more than 64.
 use Rattle.std.specs.Prelude.{ℕ, ◌+◌, ◌-◌, ◌*◌, ◌/◌, min}
-use Rattle.area.specs.declared.regions.Table.{Table}
-use Rattle.area.specs.declared.regions.Table.TheVariants.{Archive, Field, Bench}
+use Rattle.tables.specs.declared.Table.{Table}
+use Rattle.tables.specs.declared.Table.TheVariants.{Archive, Field, Bench}
 use Rattle.area.specs.declared.regions.Region.{Region}
 use Rattle.area.specs.declared.regions.Region.TheVariants.{Tree, New, Stack, Names}
 

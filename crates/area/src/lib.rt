@@ -8,20 +8,17 @@ ghost use Rattle.area.specs.Views.{view, limit as limit_in, Only};
 mod regions;
 mod types;
 
-pub use regions::{Region, Table};
+pub use regions::Region;
+pub use tables::Table;
 pub use types::Area;
 
 fn slot(t: Table) -> usize
     ensures { result ≡ slot_of t }
 {
-    match t {
-        Table::Archive => 0,
-        Table::Field => 1,
-        Table::Bench => 2,
-    }
+    t as usize
 }
 
-// Where a region begins, in words for each node of the limit.
+// Where a region begins, in words for each node of the limit: numbers, since they are the layout of a fixed memory.
 fn start(r: Region) -> usize
     ensures { result ≡ start_of r }
 {
@@ -33,7 +30,7 @@ fn start(r: Region) -> usize
     }
 }
 
-// How long a region is, in words for each node of the limit.
+// How long a region is, likewise.
 fn width(r: Region) -> usize
     ensures { result ≡ width_of r }
 {
@@ -50,12 +47,7 @@ impl Area {
     pub fn new(words: Vec<u32>) -> Area
         ensures { limit_in result ≡ limit_of (vec_len words) }
     {
-        let n = words.len();
-        let limit = if n < 1024 {
-            0
-        } else {
-            ((n - 1024) / 64).min(4096)
-        };
+        let limit = (words.len().saturating_sub(1024) / 64).min(4096);
         Area { words, limit }
     }
 

@@ -1,10 +1,4 @@
-// The three trees that a service file keeps.
-#[derive(Clone, Copy)]
-pub enum Table {
-    Archive,
-    Field,
-    Bench,
-}
+use tables::Table;
 
 // What a part of the memory is for.
 #[derive(Clone, Copy)]

@@ -22,12 +22,14 @@ pub nothing_made : {X E : Type 0} (P : X → Type 0) (r : Result X E) → is_err
 nothing_made P (Ok x) e = absurd (true≢false (sym e))
 nothing_made P (Err d) e = tt
 
-pub prints : (o a b : Bor (List ℕ)) (l : ℕ) (s : State) (told : List Answer) → l ≡ most_nodes
+pub prints : (o a b : Bor (List ℕ)) (archive field bench : List ℕ) (l : ℕ) (s : State) (told : List Answer)
+    → o.now ≡ archive → a.now ≡ field → b.now ≡ bench → l ≡ most_nodes
     → s ≡ stands plate_meaning l start (Load o a b ∷ Draw ∷ [])
     → told ≡ answers plate_meaning l start (Load o a b ∷ Draw ∷ [])
-    → replay_report (first_refused told) s ≡ printed o.now a.now b.now
-prints o a b l s told e p q =
+    → replay_report (first_refused told) s ≡ printed archive field bench
+prints o a b archive field bench l s told x y z e p q =
     let calls = Load o a b ∷ Draw ∷ [] in
     ap (λ xs. replay_report (first_refused xs) s) (q ∙ ap (λ k. answers plate_meaning k start calls) e)
     ∙ ap (replay_report (first_refused (answers plate_meaning most_nodes start calls))) (p ∙ ap (λ k. stands plate_meaning k start calls) e)
     ∙ reports_first plate_meaning most_nodes o a b
+    ∙ (λ i. printed (x i) (y i) (z i))

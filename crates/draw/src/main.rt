@@ -1,64 +1,28 @@
 // The program `draw`: loads the three records of a panel, draws a round, and prints its report, or the first reason to refuse them.
 #![tactic(auto)]
 
-ghost use Rattle.std.specs.Prelude.{◌≡◌, ◌≤◌, length, IfOk};
+ghost use Rattle.std.specs.Prelude.{◌≡◌, IfOk};
 ghost use Rattle.draw.specs.Printed.{printed};
 
 use history::replay;
 use ledger::Call;
+use panels::Panel;
 use rules::Plate;
 use std::alloc::{AllocError, Global};
-use std::fs::File;
-use std::io;
-use std::io::{ErrorKind, Read, Write};
-
-// As many bytes of a record file are read, and no more.
-const MOST_BYTES: usize = 4096;
+use std::io::Write;
 
 // The length of the service file's area, in words.
 const AREA: usize = 16384;
 
-// Reads the first bytes of a file, at most as many as the buffer holds. An absent file counts as empty.
-fn load(rt: &HostRuntime, path: &str, buffer: &mut [u8]) -> io::Result<usize>
-    ensures { IfOk result (λ n. n ≤ length buffer.old) }
-{
-    let mut file = match File::open(rt, path) {
-        Ok(file) => file,
-        Err(error) => {
-            if error.kind() == ErrorKind::NotFound {
-                return Ok(0);
-            }
-            return Err(error);
-        }
-    };
-    let mut len = 0;
-    for _ in 0..MOST_BYTES {
-        if len >= buffer.len() {
-            break;
-        }
-        let n = file.read(&mut buffer[len..])?;
-        if n == 0 {
-            break;
-        }
-        len += n;
-    }
-    Ok(len)
-}
-
-// Loads three record files and draws, and gives what is to be printed.
-fn describe<'a>(
-    heap: Global,
-    archive: &'a [u8],
-    field: &'a [u8],
-    bench: &'a [u8],
-) -> Result<Vec<u8>, AllocError>
-    ensures { IfOk result (λ v. v.items ≡ printed archive.now field.now bench.now) }
+// Loads the three files of a panel and draws, and gives what is to be printed.
+fn describe(heap: Global, panel: &Panel) -> Result<Vec<u8>, AllocError>
+    ensures { IfOk result (λ v. v.items ≡ printed panel.now.archive.items panel.now.field.items panel.now.bench.items) }
 {
     let calls = [
         Call::Load {
-            archive,
-            field,
-            bench,
+            archive: panel.archive.as_slice(),
+            field: panel.field.as_slice(),
+            bench: panel.bench.as_slice(),
         },
         Call::Draw,
     ];
@@ -68,19 +32,8 @@ fn describe<'a>(
 }
 
 fn run(rt: &HostRuntime) -> anyhow::Result<()> {
-    let heap = rt.alloc();
-    let mut archive = vec![in heap; 0u8; MOST_BYTES]?;
-    let mut field = vec![in heap; 0u8; MOST_BYTES]?;
-    let mut bench = vec![in heap; 0u8; MOST_BYTES]?;
-    let archive_len = load(rt, "archive.rec", archive.as_mut_slice())?;
-    let field_len = load(rt, "field.rec", field.as_mut_slice())?;
-    let bench_len = load(rt, "bench.rec", bench.as_mut_slice())?;
-    let text = describe(
-        heap,
-        &archive[0..archive_len],
-        &field[0..field_len],
-        &bench[0..bench_len],
-    )?;
+    let panel = Panel::read(rt)?;
+    let text = describe(rt.alloc(), &panel)?;
     rt.stdout().write_all(text.as_slice())?;
     Ok(())
 }

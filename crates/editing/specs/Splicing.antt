@@ -5,7 +5,7 @@ use Rattle.model.specs.Edits.{set_at, HasParent}
 use Rattle.stored.specs.Words.{emit, Holds}
 use Rattle.area.specs.Views.{view, limit}
 use Rattle.area.specs.declared.types.Area.{Area}
-use Rattle.area.specs.declared.regions.Table.{Table}
+use Rattle.tables.specs.declared.Table.{Table}
 use Rattle.area.specs.declared.regions.Region.{Region}
 use Rattle.area.specs.declared.regions.Region.TheVariants.{Tree as Held}
 

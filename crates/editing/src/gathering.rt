@@ -19,6 +19,7 @@ fn list(area: &mut Area, of: Region, from: usize, end: usize, first: usize) -> u
     ensures front { (f : Forest) → Between (view area.old of) from end f → take result (view area.new Names) ≡ take first (view area.old Names) ++ names f }
     ensures only { Only (Names ∷ []) area.old area.new }
 {
+    // Positions, and no iterator: it would borrow the area into which the names are written.
     let mut at = from;
     let mut i = first;
     while at < end {

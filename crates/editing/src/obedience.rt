@@ -75,6 +75,7 @@ pub fn first_unlawful<R: Rulebook>(
         return Some(0);
     };
     let mut at = 1;
+    // fixed memory: a walk whose stack stands in the area, with no index that is counted to an end
     while top < full {
         let end = area.get(Region::Stack, top + 1) as usize;
         if at == end {

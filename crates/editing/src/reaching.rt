@@ -5,7 +5,7 @@ ghost use Rattle.stored.specs.Words.{Holds};
 ghost use Rattle.editing.specs.Paths.{Reaches};
 
 use super::types::Reach;
-use stored::{child, node_count};
+use stored::{Node, child};
 
 // Follows a path in a tree of `count` nodes as far as it leads.
 pub fn reach(words: &[u32], count: usize, path: &[u32]) -> Reach
@@ -40,6 +40,6 @@ pub fn nodes_at(words: &[u32], count: usize, path: &[u32]) -> usize
     if end.names < path.len() {
         0
     } else {
-        node_count(words, end.at) as usize
+        Node::at(words, end.at).node_count()
     }
 }

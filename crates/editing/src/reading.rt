@@ -6,14 +6,14 @@ ghost use Rattle.area.specs.Views.{view};
 ghost use Rattle.editing.specs.Splitting.{Splits};
 
 use area::{Area, Region};
-use stored::seek;
+use stored::{Node, seek};
 
 // The name of the tree that stands at `at`.
 pub(crate) fn name(area: &Area, of: Region, at: usize) -> u32
     requires { Standing (view area.now of) at }
     ensures { (s : Stored) → Stands (view area.now of) at s → result ≡ s.name }
 {
-    stored::name(area.part(of), at)
+    Node::at(area.part(of), at).name()
 }
 
 // The node behind that tree.
@@ -21,7 +21,7 @@ pub(crate) fn next(area: &Area, of: Region, at: usize) -> usize
     requires { Standing (view area.now of) at }
     ensures { (s : Stored) → Stands (view area.now of) at s → result ≡ at + nodes s.tree }
 {
-    stored::next(area.part(of), at)
+    at + Node::at(area.part(of), at).node_count()
 }
 
 // The children of a tree, split at a name: the smaller names stand up to the first number, and the larger ones from the second on, up to the end.
@@ -39,14 +39,12 @@ pub(crate) fn split(area: &Area, of: Region, at: usize, name: u32) -> Parts
     ensures { (s : Stored) → Stands (view area.now of) at s → Splits at name s.tree result }
 {
     let end = next(area, of, at);
-    let spot = seek(area.part(of), at + 1, end, name);
-    let from_on = if spot.found {
-        next(area, of, spot.at)
-    } else {
-        spot.at
+    let (up_to, from_on) = match seek(area.part(of), at + 1, end, name) {
+        Ok(found) => (found, next(area, of, found)),
+        Err(stop) => (stop, stop),
     };
     Parts {
-        up_to: spot.at,
+        up_to,
         from_on,
         end,
     }

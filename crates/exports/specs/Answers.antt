@@ -7,12 +7,11 @@ use Rattle.model.specs.Round.{Outcome, round}
 use Rattle.loading.specs.Loads.{loaded}
 use Rattle.refusals.specs.declared.Refusal.{Refusal}
 use Rattle.refusals.specs.Output.{told, left}
-use Rattle.records.specs.declared.View.{View}
 use Rattle.records.specs.declared.TreeKind.TheVariants.{Copy}
 use Rattle.records.specs.Writing.{written}
 
-abbrev pub accepted : Result View Refusal → ℕ
-accepted (Ok v) = v.count + 1
+abbrev pub accepted : Result Tree Refusal → ℕ
+accepted (Ok t) = nodes t + 1
 accepted (Err e) = 0
 
 -- A copy that is written again, if its words fit so many.

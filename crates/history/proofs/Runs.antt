@@ -1,22 +1,23 @@
 -- A list of calls, one after the other.
-use Rattle.std.proofs.Common.{◌≡◌, ℕ, ◌+◌, ◌<◌, ◌≤◌, leb, List, [], ◌∷◌, ◌++◌, length, get_or, take, drop, Some, None, Ok, Err, Option, Result, sym, refl, ap, ◌∙◌, inl, inr, arith, Bor}
-use Rattle.std.proofs.lemmas.List.{at_drop_more, at_drop_all, append-nil, append_assoc, drop_all, take_at}
-use Rattle.std.proofs.lemmas.Bool.{cases_Bool, le-leb, cond-true, cond-false}
+use Rattle.std.proofs.Common.{◌≡◌, ℕ, zero, suc, ◌+◌, ◌<◌, ◌≤◌, List, [], ◌∷◌, ◌++◌, length, get_or, drop, Some, None, Ok, Err, Option, Result, sym, refl, ap, ◌∙◌, arith, Bor}
+use Rattle.std.proofs.lemmas.List.{at_drop_more, at_drop_all, append-nil, append_assoc}
+use Rattle.std.specs.Prelude.{IfSome, IsSomeAnd, MatchOption, IsTrue}
+use Rattle.std.specs.Option.{option_map}
+use Rattle.std.specs.Iterator.Runs.{Run, ItemsMapTo, CallKeepsClosure, AllItemsGive, IsFirstToGive}
+use denote.Param.Members.{Mut, Called}
 use Rattle.model.specs.Trees.{missing, marks}
 use Rattle.model.specs.Meaning.{Meaning}
 use Rattle.model.specs.Round.{Outcome, outcome}
 use Rattle.records.specs.Reading.{then}
 use Rattle.refusals.specs.declared.Refusal.{Refusal}
-use Rattle.refusals.specs.Output.{told, left}
 use Rattle.ledger.specs.declared.Call.{Call}
 use Rattle.ledger.specs.declared.Answer.{Answer}
 use Rattle.ledger.specs.declared.Answer.TheVariants.{Edited, Drawn}
 use Rattle.ledger.specs.declared.Call.TheVariants.{Load, Draw}
 use Rattle.ledger.specs.Answers.{load_answer, draw_answer, left as left_of, told as told_of}
-use Rattle.ledger.specs.Ledger.{State, drawn, start, refusal_of, step, answer, stands, answers}
+use Rattle.ledger.specs.Ledger.{State, drawn, start, refusal_of, refused_in, step, answer, stands, answers}
 use Rattle.service.specs.Service.{reported}
-use Rattle.service.proofs.Chains.{not_both, same_ok, same_err}
-use Rattle.history.specs.Desks.{refused_in, first_refused, replay_report}
+use Rattle.history.specs.Desks.{first_refused, replay_report}
 
 -- What is left to do comes to what the whole comes to.
 pub record Going (m : Meaning) (l : ℕ) (calls : List Call) (i : ℕ) (first now : State) (given : List Answer) : Type 0 where
@@ -52,42 +53,47 @@ ends {m} {l} {calls} {i} {first} {now} {given} g h = (
   sym (append-nil given) ∙ ap (λ xs. given ++ xs) (sym (at_drop_all (answers m l now) calls i h)) ∙ g.told,
 )
 
--- The answer at hand is a refusal, or not.
-abbrev or_later : Option Refusal → List Answer → Option Refusal
-or_later o more = elim o [ Some e ↦ Some e | None ↦ first_refused more ]
+-- Where the first refusal among answers stands, or that there is none.
+abbrev or_later : List Answer → Option Refusal → Option Refusal
+or_later more o = elim o [ Some e ↦ Some e | None ↦ first_refused more ]
 
-pub refused_here : (answers : List Answer) (i : ℕ) (d : Answer) (e : Refusal) → i < length answers → Some e ≡ refused_in (get_or answers i d) → Some e ≡ first_refused (drop i answers)
-refused_here answers i d e h q = ap (λ o. or_later o (drop (i + 1) answers)) q ∙ sym (at_drop_more first_refused answers i d h)
+none_refused : (xs : List Answer) → ((k : ℕ) (d : Answer) → k < length xs → refused_in (get_or xs k d) ≡ None) → first_refused xs ≡ None
+none_refused [] h = refl
+none_refused (x ∷ xs) h =
+    ap (or_later xs) (h 0 x (omega arith)) ∙ none_refused xs (λ k d b. h (suc k) d (omega arith))
 
-pub not_here : (answers : List Answer) (i : ℕ) (d : Answer) → i < length answers → None ≡ refused_in (get_or answers i d)
-    → first_refused (drop (i + 1) answers) ≡ first_refused (drop i answers)
-not_here answers i d h q = ap (λ o. or_later o (drop (i + 1) answers)) q ∙ sym (at_drop_more first_refused answers i d h)
+first_at : (xs : List Answer) (i : ℕ) (e : Refusal) → i < length xs → ((k : ℕ) (d : Answer) → k < i → refused_in (get_or xs k d) ≡ None)
+    → ((d : Answer) → refused_in (get_or xs i d) ≡ Some e) → first_refused xs ≡ Some e
+first_at [] i e b h q = absurd (omega arith)
+first_at (x ∷ xs) zero e b h q = ap (or_later xs) (q x)
+first_at (x ∷ xs) (suc i) e b h q =
+    ap (or_later xs) (h 0 x (omega arith)) ∙ first_at xs i e (omega arith) (λ k d l. h (suc k) d (omega arith)) q
 
-pub none_left : (answers : List Answer) (i : ℕ) → length answers ≤ i → None ≡ first_refused (drop i answers)
-none_left answers i h = sym (at_drop_all first_refused answers i h)
+-- A search of the answers, each asked for its refusal, gives the first.
+module _ {S F : Type 0} {steps : S → Option (Bor Answer) → S → Type 0} (p : Run steps) (xs : List Answer) (items : ItemsMapTo p (λ y. y.now) xs)
+    (g : Mut F (Bor Answer × Unit {0}) (Option Refusal)) (f : F)
+    (asks : (x : Bor Answer) (r : Option Refusal) (h : F) → Called g f (x, tt) r h → (h ≡ f) × (r ≡ refused_in x.now)) where
+  keeps : CallKeepsClosure g f
+  keeps a r h k = (asks a.0 r h k).0
 
--- A report to an empty output tells how long it is.
-pub length_told : (bs : List ℕ) (n : ℕ) → Ok n ≡ told bs [] → n ≡ length bs
-length_told bs n e =
-    elim (cases_Bool (leb (length bs) 0)) [
-      | inl y ↦ same_ok (e ∙ cond-true _ _ _ y)
-      | inr m ↦ not_both (e ∙ cond-false _ _ _ m)
-    ]
+  told_of_item : (o : Option (Bor Answer)) (a : Answer) (r : Option Refusal) → option_map (λ y. y.now) o ≡ Some a → IfSome o (λ x. Called g f (x, tt) r f)
+      → refused_in a ≡ r
+  told_of_item None a r e h = cc
+  told_of_item (Some x) a r e h = let is : x.now ≡ a = cc in ap refused_in (sym is) ∙ sym (asks x r f h).1
 
-pub length_refused : (bs : List ℕ) (d : Refusal) → Err d ≡ told bs [] → d.place ≡ length bs
-length_refused bs d e =
-    elim (cases_Bool (leb (length bs) 0)) [
-      | inl y ↦ not_both (sym (cond-true _ _ _ y) ∙ sym e)
-      | inr m ↦ ap (λ f. f.place) (same_err (e ∙ cond-false _ _ _ m))
-    ]
+  if_some : (o : Option (Bor Answer)) (r : Option Refusal) → IsSomeAnd o (λ x. Called g f (x, tt) r f) → IfSome o (λ x. Called g f (x, tt) r f)
+  if_some None r h = absurd h
+  if_some (Some x) r h = h
 
--- And one to an output of that length fills it.
-pub fills : (bs old new behind : List ℕ) (n : ℕ) → n ≡ length bs → length old ≡ n → new ≡ left bs old → take n (new ++ behind) ≡ bs
-fills bs old new behind n e l q =
-    let whole : left bs old ≡ bs ++ drop (length bs) old = cond-true _ _ _ (le-leb (length bs) (length old) (omega arith)) in
-    let none : drop (length bs) old ≡ [] = drop_all (length bs) old (omega arith) in
-    let is : new ≡ bs = q ∙ whole ∙ ap (λ xs. bs ++ xs) none ∙ append-nil bs in
-    ap (λ xs. take n (xs ++ behind)) is ∙ take_at bs behind n (sym e)
+  pub finds : (r : Option Refusal)
+      → MatchOption r (IsTrue p.whole × AllItemsGive p g f None) (λ y. (i : ℕ) × (i < p.len) × (p.len ≡ i + 1) × IsFirstToGive p g f (Some y) None i)
+      → r ≡ first_refused xs
+  finds None h = sym (none_refused xs (λ k d b. told_of_item (p.at k) _ None (items.2 k d (omega (arith, items.1 h.0))) (h.1 keeps k)))
+  finds (Some e) h =
+      let is = h.3 keeps in
+      sym (first_at xs h.0 e (omega (arith, h.1, items.0))
+      (λ k d b. told_of_item (p.at k) _ None (items.2 k d (omega (arith, h.1))) (if_some (p.at k) None (is.1 k b)))
+      (λ d. told_of_item (p.at h.0) _ (Some e) (items.2 h.0 d h.1) (if_some (p.at h.0) (Some e) is.0)))
 
 abbrev none : Outcome
 none = outcome missing missing missing

@@ -1,11 +1,10 @@
 -- What stands on a desk, in the ledger's terms.
-use Rattle.std.specs.Prelude.{ℕ, List, [], ◌∷◌, Some, None, Ok, Err, Option}
+use Rattle.std.specs.Prelude.{ℕ, List, [], ◌∷◌, Some, None, Option}
 use Rattle.refusals.specs.declared.Refusal.{Refusal}
 use Rattle.text.specs.Text.{refusal_line}
 use Rattle.text.specs.Report.{report}
 use Rattle.ledger.specs.declared.Answer.{Answer}
-use Rattle.ledger.specs.declared.Answer.TheVariants.{Edited, Drawn, Returned, OutOfTurn}
-use Rattle.ledger.specs.Ledger.{State, file, drawn}
+use Rattle.ledger.specs.Ledger.{State, file, drawn, refused_in}
 use Rattle.service.specs.Service.{limit, of_file, of_round, round_limit, reported}
 use Rattle.history.specs.declared.types.Desk.{Desk}
 use Rattle.history.specs.declared.types.Desk.TheVariants.{File, Round}
@@ -18,15 +17,7 @@ abbrev pub limit_of : Desk → ℕ
 limit_of (File f) = limit f
 limit_of (Round r) = round_limit r
 
--- The refusal of a load, a put or a strike.
-abbrev pub refused_in : Answer → Option Refusal
-refused_in (Edited (Ok u)) = None
-refused_in (Edited (Err e)) = Some e
-refused_in (Drawn r n) = None
-refused_in Returned = None
-refused_in OutOfTurn = None
-
--- The first of them.
+-- The first refusal of a load, a put or a strike.
 abbrev pub first_refused : List Answer → Option Refusal
 first_refused [] = None
 first_refused (a ∷ more) = elim (refused_in a) [ Some e ↦ Some e | None ↦ first_refused more ]

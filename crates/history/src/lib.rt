@@ -6,13 +6,12 @@ ghost use Rattle.refusals.specs.Output.{told as told_length, left as left_in};
 ghost use Rattle.area.specs.Layout.{limit_of};
 ghost use Rattle.ledger.specs.Ledger.{start, step as step_of, answer as answer_of, stands, answers as answers_of, held};
 ghost use Rattle.ledger.specs.Histories.{CopiesObey, RoundsAreMarkedAtConflicts, RoundsAreSafe, NoRivalDoesMore};
-ghost use Rattle.service.specs.Service.{limit, of_file, of_round, round_limit};
-ghost use Rattle.history.specs.Desks.{state_of, limit_of as desk_limit, refused_in, first_refused, replay_report};
+ghost use Rattle.history.specs.Desks.{state_of, limit_of as desk_limit, report_of, first_refused, replay_report};
 
 use ledger::{Answer, Call};
 use refusals::Refusal;
 use rules::Rulebook;
-use service::{File, Round};
+use service::File;
 use std::alloc::{AllocError, Global};
 use text::write_refusal_line;
 
@@ -20,64 +19,56 @@ mod types;
 
 pub use types::{Desk, Replay};
 
-// A call meets a file. One that a round would need does nothing.
-fn on_file<R: Rulebook>(rules: &R, mut file: File, call: Call) -> (Desk, Answer)
-    ensures state { state_of result.0 ≡ step_of (R.meaning rules.now) (limit file) (of_file file) call.entry }
-    ensures answer { result.1 ≡ answer_of (R.meaning rules.now) (limit file) (of_file file) call.entry }
-    ensures limit { desk_limit result.0 ≡ limit file }
-{
-    match call {
-        Call::Load {
-            archive,
-            field,
-            bench,
-        } => {
-            let answer = file.load(rules, archive, field, bench);
-            (Desk::File(file), Answer::Edited(answer))
+impl Desk {
+    // One call. A round cannot be edited or drawn, and a file not adopted or dropped: such a call does nothing.
+    fn take<R: Rulebook>(self, rules: &R, call: Call) -> (Desk, Answer)
+        ensures state { state_of result.0 ≡ step_of (R.meaning rules.now) (desk_limit self) (state_of self) call.entry }
+        ensures answer { result.1 ≡ answer_of (R.meaning rules.now) (desk_limit self) (state_of self) call.entry }
+        ensures limit { desk_limit result.0 ≡ desk_limit self }
+    {
+        match (self, call) {
+            (
+                Desk::File(mut file),
+                Call::Load {
+                    archive,
+                    field,
+                    bench,
+                },
+            ) => {
+                let answer = file.load(rules, archive, field, bench);
+                (Desk::File(file), Answer::Edited(answer))
+            }
+            (Desk::File(mut file), Call::Put { side, path, bytes }) => {
+                let answer = file.put(rules, side, path, bytes);
+                (Desk::File(file), Answer::Edited(answer))
+            }
+            (Desk::File(mut file), Call::Strike { side, path }) => {
+                let answer = file.strike(rules, side, path);
+                (Desk::File(file), Answer::Edited(answer))
+            }
+            (Desk::File(file), Call::Draw) => {
+                let round = file.draw(rules);
+                let answer = Answer::Drawn {
+                    refusal: round.refusal(),
+                    marks: round.marks(),
+                };
+                (Desk::Round(round), answer)
+            }
+            (Desk::Round(round), Call::Adopt) => (Desk::File(round.adopt()), Answer::Returned),
+            (Desk::Round(round), Call::Drop) => (Desk::File(round.drop()), Answer::Returned),
+            (desk, _) => (desk, Answer::OutOfTurn),
         }
-        Call::Put { side, path, bytes } => {
-            let answer = file.put(rules, side, path, bytes);
-            (Desk::File(file), Answer::Edited(answer))
-        }
-        Call::Strike { side, path } => {
-            let answer = file.strike(rules, side, path);
-            (Desk::File(file), Answer::Edited(answer))
-        }
-        Call::Draw => {
-            let round = file.draw(rules);
-            let answer = Answer::Drawn {
-                refusal: round.refusal(),
-                marks: round.marks(),
-            };
-            (Desk::Round(round), answer)
-        }
-        Call::Adopt => (Desk::File(file), Answer::OutOfTurn),
-        Call::Drop => (Desk::File(file), Answer::OutOfTurn),
     }
-}
 
-// A call meets a round. Only adopt and drop do anything.
-fn on_round<R: Rulebook>(rules: &R, round: Round, call: Call) -> (Desk, Answer)
-    ensures state { state_of result.0 ≡ step_of (R.meaning rules.now) (round_limit round) (of_round round) call.entry }
-    ensures answer { result.1 ≡ answer_of (R.meaning rules.now) (round_limit round) (of_round round) call.entry }
-    ensures limit { desk_limit result.0 ≡ round_limit round }
-{
-    match call {
-        Call::Adopt => (Desk::File(round.adopt()), Answer::Returned),
-        Call::Drop => (Desk::File(round.drop()), Answer::Returned),
-        _ => (Desk::Round(round), Answer::OutOfTurn),
-    }
-}
-
-// One call.
-fn step<R: Rulebook>(rules: &R, desk: Desk, call: Call) -> (Desk, Answer)
-    ensures state { state_of result.0 ≡ step_of (R.meaning rules.now) (desk_limit desk) (state_of desk) call.entry }
-    ensures answer { result.1 ≡ answer_of (R.meaning rules.now) (desk_limit desk) (state_of desk) call.entry }
-    ensures limit { desk_limit result.0 ≡ desk_limit desk }
-{
-    match desk {
-        Desk::File(file) => on_file(rules, file, call),
-        Desk::Round(round) => on_round(rules, round, call),
+    // Writes the report of what stands.
+    fn report(&self, out: &mut [u8]) -> Result<usize, Refusal>
+        ensures answer { result ≡ told_length (report_of (state_of self.now)) out.old }
+        ensures output { out.new ≡ left_in (report_of (state_of self.now)) out.old }
+    {
+        match self {
+            Desk::File(file) => file.report(out),
+            Desk::Round(round) => round.report(out),
+        }
     }
 }
 
@@ -102,33 +93,11 @@ pub fn replay<R: Rulebook>(
     let mut desk = Desk::File(File::new(words));
     let mut answers = Vec::new(heap);
     for call in calls {
-        let (next, answer) = step(rules, desk, *call);
+        let (next, answer) = desk.take(rules, *call);
         desk = next;
         answers.push(answer)?;
     }
     Ok(Replay { desk, answers })
-}
-
-// Why a load, a put or a strike was refused, if this is its answer.
-fn refusal_in(answer: Answer) -> Option<Refusal>
-    ensures { result ≡ refused_in answer }
-{
-    match answer {
-        Answer::Edited(Err(refusal)) => Some(refusal),
-        _ => None,
-    }
-}
-
-// The first of them.
-fn first_of(answers: &[Answer]) -> Option<Refusal>
-    ensures { result ≡ first_refused answers.now }
-{
-    for answer in answers {
-        if let Some(refusal) = refusal_in(*answer) {
-            return Some(refusal);
-        }
-    }
-    None
 }
 
 impl Replay {
@@ -136,7 +105,7 @@ impl Replay {
     pub fn first_refusal(&self) -> Option<Refusal>
         ensures { result ≡ first_refused self.now.answers.items }
     {
-        first_of(self.answers.as_slice())
+        self.answers.iter().find_map(|answer| answer.refusal())
     }
 
     // Writes the line of that refusal or, if there is none, the report of what stands. Answers its length. The bytes behind it stay. An output that
@@ -147,21 +116,15 @@ impl Replay {
     {
         match self.first_refusal() {
             Some(refusal) => write_refusal_line(refusal, out),
-            None => match &self.desk {
-                Desk::File(file) => file.report(out),
-                Desk::Round(round) => round.report(out),
-            },
+            None => self.desk.report(out),
         }
     }
 
-    // The same in a vector of its own.
+    // The same in a vector of its own. The report is written to slices, so it is asked first how long it is.
     pub fn text(&self, heap: Global) -> Result<Vec<u8>, AllocError>
         ensures { IfOk result (λ v. v.items ≡ replay_report (first_refused self.now.answers.items) (state_of self.now.desk)) }
     {
-        let needed = match self.report(&mut []) {
-            Ok(length) => length,
-            Err(refusal) => refusal.place,
-        };
+        let needed = self.report(&mut []).unwrap_or_else(|refusal| refusal.place);
         let mut text = vec![in heap; 0u8; needed]?;
         let _ = self.report(text.as_mut_slice());
         Ok(text)

@@ -12,6 +12,8 @@ use Rattle.refusals.specs.declared.Whose.TheVariants as whose
 use Rattle.refusals.specs.Numbers.{refused}
 use Rattle.records.specs.Reading.{says, then, most_deep}
 use Rattle.obeying.specs.Lawful.{lawful, copy_of}
+use Rattle.tables.specs.declared.Table.{Table}
+use Rattle.tables.specs.declared.Table.TheVariants as table
 use Rattle.loading.specs.Loads.{within, loaded}
 use Rattle.ledger.specs.declared.Side.{Side}
 use Rattle.ledger.specs.declared.Side.TheVariants as side
@@ -19,6 +21,10 @@ use Rattle.ledger.specs.declared.Side.TheVariants as side
 abbrev pub whose_of : Side → Whose
 whose_of side.Field = whose.Field
 whose_of side.Bench = whose.Bench
+
+abbrev pub table_of : Side → Table
+table_of side.Field = table.Field
+table_of side.Bench = table.Bench
 
 -- The copy of a side, and the trees with another in its place.
 abbrev pub copy : Side → Outcome → Tree

@@ -57,6 +57,14 @@ answer m l (drawn s r) Draw = OutOfTurn
 answer m l (drawn s r) Adopt = Returned
 answer m l (drawn s r) Drop = Returned
 
+-- The refusal of a load, a put or a strike.
+abbrev pub refused_in : Answer → Option Refusal
+refused_in (Edited (Ok u)) = None
+refused_in (Edited (Err e)) = Some e
+refused_in (Drawn r n) = None
+refused_in Returned = None
+refused_in OutOfTurn = None
+
 -- What stands after a list of calls, and their answers.
 abbrev pub stands : Meaning → ℕ → State → List Call → State
 stands m l s [] = s

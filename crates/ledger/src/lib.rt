@@ -3,9 +3,11 @@
 
 ghost use Rattle.std.specs.Prelude.{◌≡◌, ℕ, List};
 ghost use Rattle.model.specs.Meaning.{Meaning};
-ghost use Rattle.ledger.specs.Answers.{whose_of};
+ghost use Rattle.ledger.specs.Answers.{whose_of, table_of};
+ghost use Rattle.ledger.specs.Ledger.{refused_in};
 ghost use Rattle.ledger.specs.Histories.{CopiesObeyAfter, RoundsAreMarkedAtConflicts, RoundsAreSafe, NoRivalDoesMore};
 
+use area::Table;
 use refusals::{Refusal, Whose};
 
 // The copy that an edit is for.
@@ -59,14 +61,38 @@ pub enum Answer {
     OutOfTurn,
 }
 
-impl Side {
-    // Whose copy it is.
-    pub fn whose(self) -> Whose
-        ensures { result ≡ whose_of self }
-    {
-        match self {
+// Whose copy it is.
+impl From<Side> for Whose {
+    ghost from_gives = { λ side whose. whose ≡ whose_of side };
+
+    fn from(side: Side) -> Whose {
+        match side {
             Side::Field => Whose::Field,
             Side::Bench => Whose::Bench,
+        }
+    }
+}
+
+// The table of the copy.
+impl From<Side> for Table {
+    ghost from_gives = { λ side table. table ≡ table_of side };
+
+    fn from(side: Side) -> Table {
+        match side {
+            Side::Field => Table::Field,
+            Side::Bench => Table::Bench,
+        }
+    }
+}
+
+impl Answer {
+    // Why a load, a put or a strike was refused, if this is its answer.
+    pub fn refusal(self) -> Option<Refusal>
+        ensures { result ≡ refused_in self }
+    {
+        match self {
+            Answer::Edited(result) => result.err(),
+            _ => None,
         }
     }
 }

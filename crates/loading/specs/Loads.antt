@@ -8,23 +8,21 @@ use Rattle.refusals.specs.declared.Reason.TheVariants.{Crowded}
 use Rattle.refusals.specs.declared.Whose.{Whose}
 use Rattle.refusals.specs.declared.Whose.TheVariants as whose
 use Rattle.refusals.specs.Numbers.{refused}
-use Rattle.records.specs.declared.Wanted.{Wanted}
-use Rattle.records.specs.declared.TreeKind.TheVariants as tree_kind
-use Rattle.records.specs.Reading.{says, then, view_of}
+pub use Rattle.records.specs.Reading.{an_archive}
+use Rattle.records.specs.Reading.{says, then}
+use Rattle.records.specs.Views.{tree_of, LiesIn}
 use Rattle.obeying.specs.Lawful.{lawful, copy_of}
 use Rattle.stored.specs.Words.{Holds}
 use Rattle.area.specs.Views.{view, limit}
 use Rattle.area.specs.declared.types.Area.{Area}
 use Rattle.area.specs.declared.regions.Region.TheVariants as region
-use Rattle.area.specs.declared.regions.Table.TheVariants.{Archive, Field, Bench}
-use Rattle.loading.specs.declared.Views.{Views}
+use Rattle.tables.specs.declared.Table.TheVariants.{Archive, Field, Bench}
+use Rattle.tables.specs.declared.Three.{Three}
+use Rattle.records.specs.declared.view.View.{View}
 
 -- A tree of at most so many nodes, or a refusal that tells how many it has.
 abbrev pub within : ℕ → Whose → Tree → Result Tree Refusal
 within l w t = cond (nat_le (nodes t) l) (Ok t) (Err (refused Crowded w (nodes t)))
-
-abbrev pub an_archive : Wanted
-an_archive = record { kind = tree_kind.Archive; whose = whose.Archive; depth = 0 }
 
 abbrev pub archive_loaded : ℕ → List ℕ → Result Tree Refusal
 archive_loaded l bs = then (says bs an_archive) (within l whose.Archive)
@@ -41,16 +39,29 @@ loaded m l archive field bench =
     then (copy_loaded m l whose.Bench bench) (λ b.
     Ok (outcome o a b))))
 
-abbrev pub views_of : List ℕ → List ℕ → List ℕ → Result Outcome Refusal → Result Views Refusal
-views_of archive field bench (Ok r) =
-    Ok (record { archive = view_of archive r.archive; field = view_of field r.field; bench = view_of bench r.bench })
-views_of archive field bench (Err e) = Err e
+-- The views of three record files, the trees that they show, and the numbers of their nodes.
+abbrev pub Views : Type 0
+Views = Three View
 
--- The area holds three trees, each of so many nodes, and none of more than the limit.
-pub record Loaded (area : Area) (v : Views) (r : Outcome) : Type 0 where
-  pub archive : Holds (view area (region.Tree Archive)) v.archive.count r.archive
-  pub field : Holds (view area (region.Tree Field)) v.field.count r.field
-  pub bench : Holds (view area (region.Tree Bench)) v.bench.count r.bench
+abbrev pub outcome_of : Views → Outcome
+outcome_of v = outcome (tree_of v.archive) (tree_of v.field) (tree_of v.bench)
+
+abbrev pub outcomes_of : Result Views Refusal → Result Outcome Refusal
+outcomes_of (Ok v) = Ok (outcome_of v)
+outcomes_of (Err e) = Err e
+
+abbrev pub sizes_of : Views → Three ℕ
+sizes_of v = record { archive = nodes (tree_of v.archive); field = nodes (tree_of v.field); bench = nodes (tree_of v.bench) }
+
+-- Each view is of the records before the trailer of its file.
+abbrev pub LieIn : List ℕ → List ℕ → List ℕ → Views → Type 0
+LieIn archive field bench v = LiesIn archive v.archive × LiesIn field v.field × LiesIn bench v.bench
+
+-- The area holds three trees, and none has more nodes than the limit.
+pub record Loaded (area : Area) (r : Outcome) : Type 0 where
+  pub archive : Holds (view area (region.Tree Archive)) (nodes r.archive) r.archive
+  pub field : Holds (view area (region.Tree Field)) (nodes r.field) r.field
+  pub bench : Holds (view area (region.Tree Bench)) (nodes r.bench) r.bench
   pub archive_few : nodes r.archive ≤ limit area
   pub field_few : nodes r.field ≤ limit area
   pub bench_few : nodes r.bench ≤ limit area

@@ -5,21 +5,22 @@ use Rattle.model.specs.Trees.{Forest, empty, child, find, WellFormedAll, nodes}
 use Rattle.model.specs.Meaning.{Meaning}
 use Rattle.model.specs.Round.{Outcome}
 use Rattle.model.proofs.Trees.{find_head}
-use Rattle.stored.specs.Lookup.{starts}
+use Rattle.stored.specs.Lookup.{starts, at_of}
 use Rattle.stored.proofs.Places.{nodes_some}
 use Rattle.area.specs.Views.{view, limit}
 use Rattle.area.specs.declared.types.Area.{Area}
-use Rattle.area.specs.declared.regions.Table.{Table}
-use Rattle.area.specs.declared.regions.Table.TheVariants.{Archive, Field, Bench}
+use Rattle.tables.specs.declared.Table.{Table}
+use Rattle.tables.specs.declared.Table.TheVariants.{Archive, Field, Bench}
 use Rattle.area.specs.declared.regions.Region.TheVariants.{Stack}
 use Rattle.area.proofs.Laws.{limit_small}
-use Rattle.merging.specs.declared.types.Sizes.{Sizes}
+use Rattle.merging.specs.Tables.{Sizes}
 use Rattle.merging.specs.declared.types.Here.{Here}
 use Rattle.merging.specs.declared.types.Frame.{Frame}
 use Rattle.merging.specs.declared.types.Walk.{Walk}
 use Rattle.merging.specs.declared.types.Step.{Step}
 use Rattle.merging.specs.declared.types.Step.TheVariants.{Down}
-use Rattle.merging.specs.Tables.{pick, each, spot, tree_of}
+use Rattle.merging.specs.Tables.{spot, tree_of}
+use Rattle.tables.specs.Pick.{pick, each}
 use Rattle.merging.specs.Steps.{made, verdict}
 use Rattle.merging.specs.Levels.{Level, framed}
 use Rattle.merging.specs.Looking.{Least, Looked}
@@ -62,11 +63,11 @@ module _ {m : Meaning} {target : Outcome} {area : Area} {w : Walk} {lv : Level} 
     (h : Here) (k : Looked area w.at lv.frame.ends lv.left h) where
   -- How far the walk is behind the name.
   pub record Passing : Type 0 where
-    pub field_since : w.at.field ≤ h.field.at
-    pub bench_since : w.at.bench ≤ h.bench.at
-    pub field_within : h.field.at + nodes (found lv h.name Field) ≤ limit area
-    pub bench_within : h.bench.at + nodes (found lv h.name Bench) ≤ limit area
-    pub archive_within : h.archive.at + nodes (found lv h.name Archive) ≤ 4096
+    pub field_since : w.at.field ≤ at_of h.places.field
+    pub bench_since : w.at.bench ≤ at_of h.places.bench
+    pub field_within : at_of h.places.field + nodes (found lv h.name Field) ≤ limit area
+    pub bench_within : at_of h.places.bench + nodes (found lv h.name Bench) ≤ limit area
+    pub archive_within : at_of h.places.archive + nodes (found lv h.name Archive) ≤ 4096
     pub some : 1 ≤ nodes (found lv h.name Field) + nodes (found lv h.name Bench)
 
   pub passing : Passing
@@ -109,7 +110,7 @@ module _ {m : Meaning} {target : Outcome} {area : Area} {w : Walk} {lv : Level} 
 
   -- Every turn leaves less to do.
   pub settled_less : (area' : Area) (at r : Sizes) → limit area' ≡ limit area
-      → at ≡ each (λ t. (spot t h).at + nodes (found lv h.name t)) → work area' (record { top = w.top; at = at; new = r }) < work area w
+      → at ≡ each (λ t. at_of (spot t h) + nodes (found lv h.name t)) → work area' (record { top = w.top; at = at; new = r }) < work area w
   settled_less area' at r l e =
       let p = passing in
       let s = standing g in
@@ -126,15 +127,15 @@ module _ {m : Meaning} {target : Outcome} {area : Area} {w : Walk} {lv : Level} 
       )
 
   pub down_less : Chosen lv h.name Down → (area' : Area) (r : Walk) → limit area' ≡ limit area
-      → r.top + 10 ≡ w.top → r.at ≡ each (λ t. (spot t h).at + own (found lv h.name t)) → work area' r < work area w
+      → r.top + 10 ≡ w.top → r.at ≡ each (λ t. at_of (spot t h) + own (found lv h.name t)) → work area' r < work area w
   down_less e area' r l t q =
       let p = passing in
       let s = standing g in
       let n = sink e in
       omega (
         arith,
-        ap (λ x. x.field) q ∙ ap (λ x. h.field.at + own x) n.is_one,
-        ap (λ x. x.bench) q ∙ ap (λ x. h.bench.at + own x) n.is_two,
+        ap (λ x. x.field) q ∙ ap (λ x. at_of h.places.field + own x) n.is_one,
+        ap (λ x. x.bench) q ∙ ap (λ x. at_of h.places.bench + own x) n.is_two,
         ap nodes n.is_one,
         ap nodes n.is_two,
         p.field_since,

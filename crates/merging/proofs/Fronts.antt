@@ -5,7 +5,7 @@ use Rattle.model.specs.Trees.{Tree, missing, Forest, empty, child, find, names, 
 use Rattle.model.proofs.Lists.{below_trans, insert_below}
 use Rattle.model.proofs.Trees.{not_there}
 use Rattle.stored.specs.Lookup.{Between, smaller, from_on, starts}
-use Rattle.stored.specs.declared.Spot.{Spot}
+use Rattle.stored.specs.Lookup.{Spot, at_of, is_found}
 use Rattle.stored.proofs.Lookup.{passed, stopped, onward, starts_present, starts_find, behind, ascends_onward, between_onward, found_there, found_behind}
 use Rattle.merging.specs.Tables.{At, gone, there}
 use Rattle.merging.specs.Looking.{Floor, Least, Seen}
@@ -104,7 +104,7 @@ not_started k (child n t f) h =
     ]
 
 pub seen : {ws : List ℕ} {from end : ℕ} {f : Forest} {s : Spot} (k : ℕ) → Between ws from end f → Ascends (names f)
-    → s.at ≡ from + nodes_all (smaller k f) → s.found ≡ starts k (from_on k f) → Seen ws from end k f s
+    → at_of s ≡ from + nodes_all (smaller k f) → is_found s ≡ starts k (from_on k f) → Seen ws from end k f s
 seen {ws} {from} {end} {f} {s} k b a x y = go (starts k (from_on k f)) refl
   where
     go : (v : Bool) → starts k (from_on k f) ≡ v → Seen ws from end k f s
@@ -120,14 +120,14 @@ seen {ws} {from} {end} {f} {s} k b a x y = go (starts k (from_on k f)) refl
         record {
           since = omega (arith, x);
           here = there {rest = u.rest} {p = u.is_present} {w = u.well_formed} (y ∙ e) (rw x u.here);
-          then = subst (λ h. Between ws (s.at + nodes (find f k)) end h) (sym q) (subst (λ i. Between ws (i + nodes (find f k)) end g) (sym x) v);
+          then = subst (λ h. Between ws (at_of s + nodes (find f k)) end h) (sym q) (subst (λ i. Between ws (i + nodes (find f k)) end g) (sym x) v);
         }
     go false e =
         let m : find f k ≡ missing = not_there (find f k) (sym (starts_present k f a b.row.well_formed) ∙ e) in
         let q = onward k (k + 1) f (omega arith) ∙ not_started k f e in
-        let z : from + nodes_all (smaller k f) ≡ s.at + nodes (find f k) = omega (arith, ap nodes m) in
+        let z : from + nodes_all (smaller k f) ≡ at_of s + nodes (find f k) = omega (arith, ap nodes m) in
         record {
           since = omega (arith, x);
           here = subst (At ws k s) (sym m) (gone (y ∙ e));
-          then = subst (λ h. Between ws (s.at + nodes (find f k)) end h) (sym q) (subst (λ i. Between ws i end (from_on k f)) z (between_onward k b));
+          then = subst (λ h. Between ws (at_of s + nodes (find f k)) end h) (sym q) (subst (λ i. Between ws i end (from_on k f)) z (between_onward k b));
         }

@@ -7,12 +7,13 @@ use Rattle.stored.specs.Words.{Begins, Holds}
 use Rattle.stored.proofs.Unique.{emit_rest}
 use Rattle.area.specs.Views.{view, among, Only}
 use Rattle.area.specs.declared.types.Area.{Area}
-use Rattle.area.specs.declared.regions.Table.{Table}
-use Rattle.area.specs.declared.regions.Table.TheVariants.{Archive, Field, Bench}
+use Rattle.tables.specs.declared.Table.{Table}
+use Rattle.tables.specs.declared.Table.TheVariants.{Archive, Field, Bench}
 use Rattle.area.specs.declared.regions.Region.{Region}
 use Rattle.area.specs.declared.regions.Region.TheVariants.{Tree as Old, New}
-use Rattle.merging.specs.declared.types.Sizes.{Sizes}
-use Rattle.merging.specs.Tables.{pick, tree_of}
+use Rattle.merging.specs.Tables.{Sizes}
+use Rattle.merging.specs.Tables.{tree_of}
+use Rattle.tables.specs.Pick.{pick}
 use Rattle.merging.specs.Held.{Held, Merged}
 
 -- A new region begins with its tree, whatever stands behind it.

@@ -9,8 +9,8 @@ use Rattle.stored.specs.Words.{below as children}
 use Rattle.stored.specs.Lookup.{from_on}
 use Rattle.stored.proofs.Lookup.{find_onward}
 use Rattle.stored.proofs.Forests.{join}
-use Rattle.area.specs.declared.regions.Table.{Table}
-use Rattle.area.specs.declared.regions.Table.TheVariants.{Archive, Field, Bench}
+use Rattle.tables.specs.declared.Table.{Table}
+use Rattle.tables.specs.declared.Table.TheVariants.{Archive, Field, Bench}
 use Rattle.merging.specs.declared.types.Step.{Step}
 use Rattle.merging.specs.declared.types.Step.TheVariants.{Agreed, TakeBench, TakeField, Mark, Down}
 use Rattle.merging.specs.declared.types.Frame.{Frame}

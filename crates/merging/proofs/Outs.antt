@@ -6,11 +6,12 @@ use Rattle.model.specs.Round.{Outcome, outcome, settled, first_five}
 use Rattle.stored.specs.Words.{emit, emits}
 use Rattle.stored.proofs.Forests.{join, emits_join}
 use Rattle.stored.proofs.Unique.{emits_rest}
-use Rattle.area.specs.declared.regions.Table.{Table}
-use Rattle.area.specs.declared.regions.Table.TheVariants.{Archive, Field, Bench}
+use Rattle.tables.specs.declared.Table.{Table}
+use Rattle.tables.specs.declared.Table.TheVariants.{Archive, Field, Bench}
 use Rattle.merging.specs.declared.types.Step.{Step}
 use Rattle.merging.specs.declared.types.Step.TheVariants.{Agreed, TakeBench, TakeField, Mark, Down}
-use Rattle.merging.specs.Tables.{pick, tree_of}
+use Rattle.merging.specs.Tables.{tree_of}
+use Rattle.tables.specs.Pick.{pick}
 use Rattle.merging.specs.Steps.{made, verdict}
 use Rattle.merging.specs.Levels.{Level, sealed, more, gained}
 use Rattle.merging.specs.Outputs.{Grown, Opened, Listed}

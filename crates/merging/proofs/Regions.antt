@@ -4,8 +4,8 @@ use mathlib.Core.Path.{fun_ext}
 use Rattle.model.specs.Trees.{Tree}
 use Rattle.area.specs.Views.{view, among, Only}
 use Rattle.area.specs.declared.types.Area.{Area}
-use Rattle.area.specs.declared.regions.Table.{Table}
-use Rattle.area.specs.declared.regions.Table.TheVariants.{Archive, Field, Bench}
+use Rattle.tables.specs.declared.Table.{Table}
+use Rattle.tables.specs.declared.Table.TheVariants.{Archive, Field, Bench}
 use Rattle.area.specs.declared.regions.Region.{Region}
 use Rattle.area.specs.declared.regions.Region.TheVariants.{Tree as Old, New}
 use Rattle.area.proofs.Laws.{also, wider}

@@ -1,5 +1,5 @@
 -- The round from its root.
-use Rattle.std.proofs.Common.{◌≡◌, ℕ, ◌+◌, ◌*◌, ◌≤◌, ltb, List, [], ◌∷◌, ◌++◌, take, Some, sym, refl, ap, ◌∙◌, subst, arith}
+use Rattle.std.proofs.Common.{◌≡◌, ℕ, ◌+◌, ◌*◌, ◌≤◌, Bool, true, false, ltb, Ok, Err, List, [], ◌∷◌, ◌++◌, take, Some, sym, refl, ap, ◌∙◌, subst, arith}
 use Rattle.std.proofs.lemmas.Bool.{lt-ltb}
 use Rattle.std.proofs.lemmas.List.{drop_all}
 use Rattle.model.specs.Trees.{Tree, missing, mark, node, nodes}
@@ -8,21 +8,22 @@ use Rattle.model.specs.Round.{first_five, round}
 use Rattle.model.specs.Safety.{Ready}
 use Rattle.model.proofs.Place.{unmarked}
 use Rattle.stored.specs.Words.{Holds, emit, below as children}
-use Rattle.stored.specs.declared.Spot.{Spot}
+use Rattle.stored.specs.Lookup.{Spot, at_of}
 use Rattle.stored.proofs.Places.{begun}
 use Rattle.area.specs.Views.{view, limit, Only}
 use Rattle.area.specs.declared.types.Area.{Area}
-use Rattle.area.specs.declared.regions.Table.{Table}
-use Rattle.area.specs.declared.regions.Table.TheVariants.{Archive, Field, Bench}
+use Rattle.tables.specs.declared.Table.{Table}
+use Rattle.tables.specs.declared.Table.TheVariants.{Archive, Field, Bench}
 use Rattle.area.specs.declared.regions.Region.TheVariants.{New, Stack}
 use Rattle.area.proofs.Laws.{view_length, limit_small, same_length}
-use Rattle.merging.specs.declared.types.Sizes.{Sizes}
+use Rattle.merging.specs.Tables.{Sizes}
 use Rattle.merging.specs.declared.types.Here.{Here}
 use Rattle.merging.specs.declared.types.Walk.{Walk}
 use Rattle.merging.specs.declared.types.Step.{Step}
 use Rattle.merging.specs.declared.types.Step.TheVariants.{Down}
 use Rattle.merging.specs.Held.{Held, Merged}
-use Rattle.merging.specs.Tables.{pick, each, spot, tree_of, trees, At, gone, there, sources}
+use Rattle.merging.specs.Tables.{spot, tree_of, trees, At, gone, there, sources}
+use Rattle.tables.specs.Pick.{pick, each}
 use Rattle.merging.specs.Steps.{made, verdict}
 use Rattle.merging.specs.Levels.{Level, fresh}
 use Rattle.merging.specs.Looking.{Finds}
@@ -35,11 +36,16 @@ use Rattle.merging.proofs.Regions.{same_sources}
 use Rattle.merging.proofs.Outs.{made_small}
 use Rattle.merging.proofs.Turns.{fresh_rests}
 
+-- The first node, if there is one.
+abbrev pub at_root : Bool → Spot
+at_root true = Ok 0
+at_root false = Err 0
+
 -- A whole tree stands at the first node.
-pub whole_at : (ws : List ℕ) (n : ℕ) (t : Tree) → Holds ws n t → At ws 0 (record { at = 0; found = ltb 0 n }) t
-whole_at ws n missing h = gone (ap (ltb 0) h.count)
-whole_at ws n mark h = there (lt-ltb 0 n (omega (arith, h.count))) (begun h.begins tt)
-whole_at ws n (node f) h = there (lt-ltb 0 n (omega (arith, h.count))) (begun h.begins tt)
+pub whole_at : (ws : List ℕ) (n : ℕ) (t : Tree) → Holds ws n t → At ws 0 (at_root (ltb 0 n)) t
+whole_at ws n missing h = subst (λ b. At ws 0 (at_root b) missing) (sym (ap (ltb 0) h.count)) (gone refl)
+whole_at ws n mark h = subst (λ b. At ws 0 (at_root b) mark) (sym (lt-ltb 0 n (omega (arith, h.count)))) (there refl (begun h.begins tt))
+whole_at ws n (node f) h = subst (λ b. At ws 0 (at_root b) (node f)) (sym (lt-ltb 0 n (omega (arith, h.count)))) (there refl (begun h.begins tt))
 
 abbrev pub none : Sizes
 none = record { archive = 0; field = 0; bench = 0 }
@@ -49,15 +55,15 @@ pub record Rooted (m : Meaning) (area : Area) (size : Sizes) (o a b : Tree) (h :
   pub held : Held area size o a b
   pub ready : Ready m (Some 0) o a b
   pub name : h.name ≡ 0
-  pub origin : (t : Table) → (spot t h).at ≡ 0
+  pub origin : (t : Table) → at_of (spot t h) ≡ 0
   pub finds : Finds area h (trees o a b)
 
-pub rooted : {m : Meaning} {area : Area} {size : Sizes} {o a b : Tree} (x y z : Spot) → x.at ≡ 0 → y.at ≡ 0 → z.at ≡ 0
+pub rooted : {m : Meaning} {area : Area} {size : Sizes} {o a b : Tree} (x y z : Spot) → at_of x ≡ 0 → at_of y ≡ 0 → at_of z ≡ 0
     → ((ws : List ℕ) (t : Tree) → Holds ws size.archive t → At ws 0 x t)
     → ((ws : List ℕ) (t : Tree) → Holds ws size.field t → At ws 0 y t)
     → ((ws : List ℕ) (t : Tree) → Holds ws size.bench t → At ws 0 z t)
     → Held area size o a b → Ready m (Some 0) o a b
-    → Rooted m area size o a b (record { name = 0; archive = x; field = y; bench = z })
+    → Rooted m area size o a b (record { name = 0; places = record { archive = x; field = y; bench = z } })
 rooted x y z ex ey ez hx hy hz held ready =
     record {
       held = held;
@@ -95,13 +101,13 @@ module _ {m : Meaning} {area : Area} {size : Sizes} {o a b : Tree} {h : Here} (r
       let ts = trees o a b in
       let frame = frame_for (Some 0) h ts none in
       let new : Level = fresh h.name frame s.one s.two (λ t. children (ts t)) in
-      let rest : RestsAll m (sources area) (new ∷ []) (each (λ t. (spot t h).at + own (ts t))) = (
+      let rest : RestsAll m (sources area) (new ∷ []) (each (λ t. at_of (spot t h) + own (ts t))) = (
         fresh_rests {m = m} {source = sources area} (Some 0) h ts none root.finds s root.ready.field_obeys root.ready.bench_obeys
             (by_table _ (omega arith) (omega arith) (omega arith)) (omega (arith, root.origin Archive, root.held.archive_few, limit_small area)),
         tt,
       ) in
-      let af : r.at.field ≡ h.field.at + 1 = ap (λ x. x.field) p.at ∙ ap (λ t. h.field.at + own t) s.is_one in
-      let ab : r.at.bench ≡ h.bench.at + 1 = ap (λ x. x.bench) p.at ∙ ap (λ t. h.bench.at + own t) s.is_two in
+      let af : r.at.field ≡ at_of h.places.field + 1 = ap (λ x. x.field) p.at ∙ ap (λ t. at_of h.places.field + own t) s.is_one in
+      let ab : r.at.bench ≡ at_of h.places.bench + 1 = ap (λ x. x.bench) p.at ∙ ap (λ t. at_of h.places.bench + own t) s.is_two in
       let some = ap nodes s.is_one in
       let one : (t : Table) → pick t r.new ≡ 1 = by_table _ (p.new Archive) (p.new Field) (p.new Bench) in
       let written : (t : Table) → take (3 * pick t r.new) (view area' (New t)) ≡ h.name ∷ 0 ∷ 0 ∷ [] =

@@ -3,8 +3,8 @@ use Rattle.std.proofs.Common.{◌≡◌, ℕ, ◌*◌, ◌≤◌, Bool, true, fa
 use Rattle.model.specs.Trees.{mark, node, Forest, names}
 use Rattle.model.specs.Meaning.{Meaning, allowed}
 use Rattle.model.specs.Round.{outcome}
-use Rattle.area.specs.declared.regions.Table.{Table}
-use Rattle.area.specs.declared.regions.Table.TheVariants.{Archive, Field, Bench}
+use Rattle.tables.specs.declared.Table.{Table}
+use Rattle.tables.specs.declared.Table.TheVariants.{Archive, Field, Bench}
 use Rattle.merging.specs.Tables.{tree_of}
 use Rattle.merging.specs.Levels.{sealed}
 use Rattle.merging.specs.Outputs.{Opened}

@@ -1,5 +1,5 @@
 -- The turns of the loop.
-use Rattle.std.proofs.Common.{◌≡◌, ℕ, ◌+◌, ◌*◌, ◌≤◌, false, cond, List, [], ◌∷◌, ◌++◌, length, drop, Option, sym, refl, ap, ◌∙◌, subst, inl, inr, arith, length-drop, drop-drop}
+use Rattle.std.proofs.Common.{◌≡◌, ℕ, ◌+◌, ◌*◌, ◌≤◌, false, cond, List, [], ◌∷◌, ◌++◌, length, drop, Ok, Option, sym, refl, ap, ◌∙◌, subst, inl, inr, arith, length-drop, drop-drop}
 use Rattle.std.proofs.lemmas.Bool.{cases_lt, lt-ltb, le-ltb}
 use Rattle.model.specs.Trees.{Tree, missing, mark, node, Forest, empty, child, find, names, Ascends, is_mark, nodes, nodes_all}
 use Rattle.model.specs.Meaning.{Meaning, class_under, Obeys, ObeyAll}
@@ -7,21 +7,22 @@ use Rattle.model.specs.Round.{Outcome, first_five}
 use Rattle.model.proofs.Place.{obeys_find, unmarked}
 use Rattle.stored.specs.Words.{emit, below as children}
 use Rattle.stored.specs.Lookup.{Between, from_on}
-use Rattle.stored.specs.declared.Spot.{Spot}
+use Rattle.stored.specs.Lookup.{Spot, at_of}
 use Rattle.stored.proofs.Places.{node_at}
 use Rattle.stored.proofs.Lookup.{ascends_onward, ascends_below, between_children}
 use Rattle.area.specs.Views.{view, limit, Only}
 use Rattle.area.specs.declared.types.Area.{Area}
-use Rattle.area.specs.declared.regions.Table.{Table}
-use Rattle.area.specs.declared.regions.Table.TheVariants.{Archive, Field, Bench}
+use Rattle.tables.specs.declared.Table.{Table}
+use Rattle.tables.specs.declared.Table.TheVariants.{Archive, Field, Bench}
 use Rattle.area.specs.declared.regions.Region.TheVariants.{Tree as Old, New, Stack, Names}
 use Rattle.area.proofs.Laws.{view_length, same_length}
-use Rattle.merging.specs.declared.types.Sizes.{Sizes}
+use Rattle.merging.specs.Tables.{Sizes}
 use Rattle.merging.specs.declared.types.Here.{Here}
 use Rattle.merging.specs.declared.types.Walk.{Walk}
 use Rattle.merging.specs.declared.types.Step.{Step}
 use Rattle.merging.specs.declared.types.Step.TheVariants.{Down}
-use Rattle.merging.specs.Tables.{pick, each, spot, tree_of, At, gone, there, sources, found_at}
+use Rattle.merging.specs.Tables.{spot, tree_of, At, gone, there, sources}
+use Rattle.tables.specs.Pick.{pick, each}
 use Rattle.merging.specs.Steps.{made, verdict}
 use Rattle.merging.specs.Levels.{Level, sealed, value, more, gained, resume, answer, fresh}
 use Rattle.merging.specs.Looking.{Looked}
@@ -51,7 +52,7 @@ obeys_onward m c k (child n t f) h =
     elim (cases_lt n k) [ inl l ↦ rw (lt-ltb n k l) (obeys_onward m c k f h.1) | inr l ↦ rw (le-ltb n k l) h ]
 
 -- Where a copy stands is within the limit.
-stands_low : (area : Area) (t : Table) {k p : ℕ} {f : Forest} → At (sources area t) k (found_at p) (node f) → p + nodes (node f) ≤ limit area
+stands_low : (area : Area) (t : Table) {k p : ℕ} {f : Forest} → At (sources area t) k (Ok p) (node f) → p + nodes (node f) ≤ limit area
 stands_low area t h = let w = node_at (stood h refl).here in omega (arith, w.whole, view_length area (Old t))
 
 module _ {m : Meaning} {target : Outcome} {area : Area} {w : Walk} {lv : Level} {ls : List Level} (g : Going m target area w lv ls) where
@@ -164,9 +165,9 @@ shuts {m} {target} {area} {w} {lv} {ls} g area' r ef eb o grown = run ls g
 -- What is left behind a name.
 onward : {m : Meaning} {area : Area} {lv : Level} {at : Sizes} {h : Here} (done : Table → Forest) → ((t : Table) → Listed (done t))
     → Rests m (sources area) lv at → Looked area at lv.frame.ends lv.left h
-    → Rests m (sources area) (gained lv (behind h.name lv.left) done) (each (λ t. (spot t h).at + nodes (found lv h.name t)))
+    → Rests m (sources area) (gained lv (behind h.name lv.left) done) (each (λ t. at_of (spot t h) + nodes (found lv h.name t)))
 onward {m} {area} {lv} {at} {h} done l r k =
-    let n : Table → ℕ = λ t. (spot t h).at + nodes (found lv h.name t) in
+    let n : Table → ℕ = λ t. at_of (spot t h) + nodes (found lv h.name t) in
     record {
       lies = λ t. subst (λ p. Between (sources area t) p (pick t lv.frame.ends) (from_on (h.name + 1) (lv.left t))) (sym (pick_each n t)) (k.seen t).then;
       ascend = λ t. ascends_onward (h.name + 1) (lv.left t) (r.ascend t);
@@ -198,7 +199,7 @@ Chosen lv k s = first_five (found lv k Archive) (found lv k Field) (found lv k B
 -- A name is settled.
 pub settled_turn : {m : Meaning} {target : Outcome} {area : Area} {w : Walk} {lv : Level} {ls : List Level} → Going m target area w lv ls
     → (h : Here) → Looked area w.at lv.frame.ends lv.left h → (s : Step) → Chosen lv h.name s → ¬ (s ≡ Down)
-    → (area' : Area) (at r : Sizes) → at ≡ each (λ t. (spot t h).at + nodes (found lv h.name t))
+    → (area' : Area) (at r : Sizes) → at ≡ each (λ t. at_of (spot t h) + nodes (found lv h.name t))
     → Only (New Archive ∷ New Field ∷ New Bench ∷ []) area area'
     → ((t : Table) → Grown (view area (New t)) (view area' (New t)) (pick t w.new) (pick t r) h.name (tree_of t (made s (found lv h.name Field) (found lv h.name Bench))))
     → State m target area' (record { top = w.top; at = at; new = r })
@@ -208,7 +209,7 @@ settled_turn {m} {target} {area} {w} {lv} {ls} g h k s e d area' at r ea o grown
     let done = more lv.done h.name all in
     let lv' : Level = gained lv (behind h.name lv.left) done in
     let listed : (t : Table) → Listed (done t) = λ t. listed_more lv.done h.name all t (q.listed t) in
-    let to : Sizes = each (λ t. (spot t h).at + nodes (found lv h.name t)) in
+    let to : Sizes = each (λ t. at_of (spot t h) + nodes (found lv h.name t)) in
     let rest : RestsAll m (sources area) (lv' ∷ ls) to = (onward done listed q k, g.rests.1) in
     let f = (k.seen Field).since in
     let b = (k.seen Bench).since in
@@ -229,11 +230,11 @@ settled_turn {m} {target} {area} {w} {lv} {ls} g h k s e d area' at r ea o grown
     ))
 
 -- The children of a place.
-inner : {ws : List ℕ} {k : ℕ} {s : Spot} {t : Tree} → At ws k s t → Between ws (s.at + own t) (s.at + nodes t) (children t)
-inner {ws} {s = s} (gone f) = record { rest = drop (3 * (s.at + 0)) ws; row = record { well_formed = tt; words = refl }; ends = omega arith }
+inner : {ws : List ℕ} {k : ℕ} {s : Spot} {t : Tree} → At ws k s t → Between ws (at_of s + own t) (at_of s + nodes t) (children t)
+inner {ws} {s = s} (gone f) = record { rest = drop (3 * (at_of s + 0)) ws; row = record { well_formed = tt; words = refl }; ends = omega arith }
 inner {ws} {k} {s} (there {t} {p = p} f h) =
     let e : own t ≡ 1 = ap (λ b. cond b 1 0) (sym (found_present (there f h)) ∙ f) in
-    subst (λ n. Between ws (s.at + n) (s.at + nodes t) (children t)) (sym e) (between_children h refl)
+    subst (λ n. Between ws (at_of s + n) (at_of s + nodes t) (children t)) (sym e) (between_children h refl)
 
 inner_ascends : {ws : List ℕ} {k : ℕ} {s : Spot} {t : Tree} → At ws k s t → Ascends (names (children t))
 inner_ascends (gone f) = tt
@@ -244,15 +245,15 @@ inner_obeys m c missing h = tt
 inner_obeys m c mark h = tt
 inner_obeys m c (node f) h = h.1
 
-at_node : {ws : List ℕ} {k : ℕ} {s : Spot} {t : Tree} (f : Forest) → At ws k s t → t ≡ node f → At ws k (found_at s.at) (node f)
+at_node : {ws : List ℕ} {k : ℕ} {s : Spot} {t : Tree} (f : Forest) → At ws k s t → t ≡ node f → At ws k (Ok (at_of s)) (node f)
 at_node f (gone q) e = absurd (omega (arith, ap nodes e))
-at_node {ws} {k} {s} f (there q h) e = subst (At ws k (found_at s.at)) e (there refl h)
+at_node {ws} {k} {s} f (there q h) e = subst (At ws k (Ok (at_of s))) e (there refl h)
 
 pub fresh_rests : {m : Meaning} {source : Table → List ℕ} (c : Option ℕ) (h : Here) (ts : Table → Tree) (new : Sizes)
     → ((t : Table) → At (source t) h.name (spot t h) (ts t)) → (s : Sinks (ts Archive) (ts Field) (ts Bench))
-    → Obeys m c (ts Field) → Obeys m c (ts Bench) → ((t : Table) → pick t new ≤ h.field.at + h.bench.at)
-    → h.archive.at + nodes (ts Archive) ≤ 4096
-    → Rests m source (fresh h.name (frame_for c h ts new) s.one s.two (λ t. children (ts t))) (each (λ t. (spot t h).at + own (ts t)))
+    → Obeys m c (ts Field) → Obeys m c (ts Bench) → ((t : Table) → pick t new ≤ at_of h.places.field + at_of h.places.bench)
+    → at_of h.places.archive + nodes (ts Archive) ≤ 4096
+    → Rests m source (fresh h.name (frame_for c h ts new) s.one s.two (λ t. children (ts t))) (each (λ t. at_of (spot t h) + own (ts t)))
 fresh_rests {m} {source} c h ts new finds s of ob used low =
     record {
       lies = by_table _ (inner (finds Archive)) (inner (finds Field)) (inner (finds Bench));
@@ -261,8 +262,8 @@ fresh_rests {m} {source} c h ts new finds s of ob used low =
       bench_obeys = inner_obeys m c (ts Bench) ob;
       field_here = at_node s.one (finds Field) s.is_one;
       bench_here = at_node s.two (finds Bench) s.is_two;
-      field_ends = ap (λ t. h.field.at + nodes t) s.is_one;
-      bench_ends = ap (λ t. h.bench.at + nodes t) s.is_two;
+      field_ends = ap (λ t. at_of h.places.field + nodes t) s.is_one;
+      bench_ends = ap (λ t. at_of h.places.bench + nodes t) s.is_two;
       used = used;
       low = low;
       listed = λ t. tt;
@@ -291,10 +292,10 @@ down_turn {m} {target} {area} {w} {lv} {ls} g h k e area' class r ec opens o =
     (obeys_find m lv.frame.class (lv.left Field) h.name q.field_obeys)
     (obeys_find m lv.frame.class (lv.left Bench) h.name q.bench_obeys)
     (λ t. omega (arith, g.used t, f, b)) (omega (arith, (k.seen Archive).then.ends, q.low)) in
-    let rest : RestsAll m (sources area) (new ∷ lv' ∷ ls) (each (λ t. (spot t h).at + own (ts t))) =
+    let rest : RestsAll m (sources area) (new ∷ lv' ∷ ls) (each (λ t. at_of (spot t h) + own (ts t))) =
     (here, (onward lv.done q.listed q k, g.rests.1)) in
-    let af : r.at.field ≡ h.field.at + 1 = ap (λ x. x.field) p.at ∙ ap (λ t. h.field.at + own t) s.is_one in
-    let ab : r.at.bench ≡ h.bench.at + 1 = ap (λ x. x.bench) p.at ∙ ap (λ t. h.bench.at + own t) s.is_two in
+    let af : r.at.field ≡ at_of h.places.field + 1 = ap (λ x. x.field) p.at ∙ ap (λ t. at_of h.places.field + own t) s.is_one in
+    let ab : r.at.bench ≡ at_of h.places.bench + 1 = ap (λ x. x.bench) p.at ∙ ap (λ t. at_of h.places.bench + own t) s.is_two in
     let st = standing g in
     let nf = ap nodes s.is_one in
     let nb = ap nodes s.is_two in

@@ -7,8 +7,8 @@ use Rattle.model.specs.Trees.{Tree, missing, mark, node, Forest, nodes, nodes_al
 use Rattle.stored.specs.Words.{Stored, Stands, emit, emits}
 use Rattle.stored.proofs.Places.{node_at, length_emit, length_emits}
 use Rattle.stored.proofs.Unique.{emit_rest, emits_rest}
-use Rattle.area.specs.declared.regions.Table.{Table}
-use Rattle.area.specs.declared.regions.Table.TheVariants.{Archive, Field, Bench}
+use Rattle.tables.specs.declared.Table.{Table}
+use Rattle.tables.specs.declared.Table.TheVariants.{Archive, Field, Bench}
 use Rattle.merging.specs.Outputs.{Grown, Opened, Listed, Listing}
 
 pub by_table : (P : Table → Type 0) → P Archive → P Field → P Bench → (t : Table) → P t

@@ -1,8 +1,8 @@
 -- A frame as the stack keeps it.
 use Rattle.std.specs.Prelude.{ℕ, ◌≤◌, List, [], ◌∷◌, Some, None, Option}
-use Rattle.area.specs.declared.regions.Table.{Table}
+use Rattle.tables.specs.declared.Table.{Table}
 use Rattle.merging.specs.declared.types.Frame.{Frame}
-use Rattle.merging.specs.Tables.{pick}
+use Rattle.tables.specs.Pick.{pick}
 
 -- A class as two words: whether there is one, and its number.
 abbrev pub flag : Option ℕ → ℕ

@@ -1,20 +1,22 @@
 -- How a round stands between two turns of its loop.
-use Rattle.std.specs.Prelude.{◌≡◌, ℕ, ◌+◌, ◌-◌, ◌*◌, ◌<◌, ◌≤◌, cond, List, [], ◌∷◌, ◌++◌, length, take, drop, Option}
+use Rattle.std.specs.Prelude.{◌≡◌, ℕ, ◌+◌, ◌-◌, ◌*◌, ◌<◌, ◌≤◌, cond, List, [], ◌∷◌, ◌++◌, length, take, drop, Ok, Option}
 use Rattle.model.specs.Trees.{Tree, node, names, Ascends, present, nodes}
 use Rattle.model.specs.Meaning.{Meaning, ObeyAll}
 use Rattle.model.specs.Round.{Outcome}
 use Rattle.stored.specs.Words.{emits}
+use Rattle.stored.specs.Lookup.{at_of}
 use Rattle.area.specs.Views.{view, limit}
 use Rattle.area.specs.declared.types.Area.{Area}
-use Rattle.area.specs.declared.regions.Table.{Table}
-use Rattle.area.specs.declared.regions.Table.TheVariants.{Field, Bench}
+use Rattle.tables.specs.declared.Table.{Table}
+use Rattle.tables.specs.declared.Table.TheVariants.{Field, Bench}
 use Rattle.area.specs.declared.regions.Region.TheVariants.{New, Stack}
-use Rattle.merging.specs.declared.types.Sizes.{Sizes}
+use Rattle.merging.specs.Tables.{Sizes}
 use Rattle.merging.specs.declared.types.Here.{Here}
 use Rattle.merging.specs.declared.types.Frame.{Frame}
 use Rattle.merging.specs.declared.types.Walk.{Walk}
 use Rattle.merging.specs.Held.{Merged}
-use Rattle.merging.specs.Tables.{At, found_at, pick, each, spot, sources}
+use Rattle.merging.specs.Tables.{At, spot, sources}
+use Rattle.tables.specs.Pick.{pick, each}
 use Rattle.merging.specs.Looking.{Finds, Lies}
 use Rattle.merging.specs.Frames.{frame_words}
 use Rattle.merging.specs.Outputs.{Opened, Listed}
@@ -47,8 +49,8 @@ pub record Rests (m : Meaning) (source : Table → List ℕ) (lv : Level) (at : 
   pub ascend : (t : Table) → Ascends (names (lv.left t))
   pub field_obeys : ObeyAll m lv.frame.class (lv.left Field)
   pub bench_obeys : ObeyAll m lv.frame.class (lv.left Bench)
-  pub field_here : At (source Field) lv.name (found_at lv.frame.field) (node lv.one)
-  pub bench_here : At (source Bench) lv.name (found_at lv.frame.bench) (node lv.two)
+  pub field_here : At (source Field) lv.name (Ok lv.frame.field) (node lv.one)
+  pub bench_here : At (source Bench) lv.name (Ok lv.frame.bench) (node lv.two)
   pub field_ends : lv.frame.ends.field ≡ lv.frame.field + nodes (node lv.one)
   pub bench_ends : lv.frame.ends.bench ≡ lv.frame.bench + nodes (node lv.two)
   pub used : (t : Table) → pick t lv.frame.new ≤ lv.frame.field + lv.frame.bench
@@ -101,8 +103,8 @@ work area w = 11 * (limit area * 2) + limit area * 16 - (11 * (w.at.field + w.at
 pub record Closing (area : Area) (f : Frame) (new : Sizes) (lv : Level) : Type 0 where
   pub opened : (t : Table) → Opened (view area (New t)) (pick t f.new) (pick t new) lv.name (lv.done t)
   pub listed : (t : Table) → Listed (lv.done t)
-  pub field_here : At (sources area Field) lv.name (found_at f.field) (node lv.one)
-  pub bench_here : At (sources area Bench) lv.name (found_at f.bench) (node lv.two)
+  pub field_here : At (sources area Field) lv.name (Ok f.field) (node lv.one)
+  pub bench_here : At (sources area Bench) lv.name (Ok f.bench) (node lv.two)
   pub room : (t : Table) → pick t f.new + (nodes (node lv.one) + nodes (node lv.two)) ≤ limit area * 2
 
 -- A tree's own node.
@@ -112,7 +114,7 @@ own t = cond (present t) 1 0
 -- The frame of a place whose children are to be merged.
 abbrev pub frame_for : Option ℕ → Here → (Table → Tree) → Sizes → Frame
 frame_for c h ts new =
-    record { class = c; ends = each (λ t. (spot t h).at + nodes (ts t)); field = h.field.at; bench = h.bench.at; new = new }
+    record { class = c; ends = each (λ t. at_of (spot t h) + nodes (ts t)); field = at_of h.places.field; bench = at_of h.places.bench; new = new }
 
 -- What the opening of a level is given.
 pub record Opening (area : Area) (h : Here) (w : Walk) (ts : Table → Tree) : Type 0 where
@@ -120,13 +122,13 @@ pub record Opening (area : Area) (h : Here) (w : Walk) (ts : Table → Tree) : T
   pub deep : 10 ≤ w.top
   pub within : w.top ≤ limit area * 16
   pub room : (t : Table) → pick t w.new < limit area * 2
-  pub low : (t : Table) → (spot t h).at + nodes (ts t) ≤ 4096
+  pub low : (t : Table) → at_of (spot t h) + nodes (ts t) ≤ 4096
 
 -- A level was opened: its frame is on the stack, and its node in each new region is open.
 pub record Opens (before after : Area) (c : Option ℕ) (h : Here) (ts : Table → Tree) (w r : Walk) : Type 0 where
   pub top : r.top + 10 ≡ w.top
   pub pile : drop r.top (view after Stack) ≡ frame_words (frame_for c h ts w.new) ++ drop w.top (view before Stack)
-  pub at : r.at ≡ each (λ t. (spot t h).at + own (ts t))
+  pub at : r.at ≡ each (λ t. at_of (spot t h) + own (ts t))
   pub new : (t : Table) → pick t r.new ≡ pick t w.new + 1
   pub words :
       (t : Table)

@@ -5,11 +5,12 @@ use Rattle.model.specs.Round.{Outcome}
 use Rattle.stored.specs.Words.{emit, Holds}
 use Rattle.area.specs.Views.{view, limit}
 use Rattle.area.specs.declared.types.Area.{Area}
-use Rattle.area.specs.declared.regions.Table.{Table}
-use Rattle.area.specs.declared.regions.Table.TheVariants.{Archive, Field, Bench}
+use Rattle.tables.specs.declared.Table.{Table}
+use Rattle.tables.specs.declared.Table.TheVariants.{Archive, Field, Bench}
 use Rattle.area.specs.declared.regions.Region.TheVariants.{Tree as Old, New}
-use Rattle.merging.specs.declared.types.Sizes.{Sizes}
-use Rattle.merging.specs.Tables.{pick, tree_of}
+use Rattle.merging.specs.Tables.{Sizes}
+use Rattle.merging.specs.Tables.{tree_of}
+use Rattle.tables.specs.Pick.{pick}
 
 -- The area holds the archive o, the field copy a and the bench copy b, each of so many nodes, and none of more than the limit.
 pub record Held (area : Area) (sizes : Sizes) (o a b : Tree) : Type 0 where

@@ -4,8 +4,8 @@ use Rattle.model.specs.Trees.{mark, node, Forest, empty, find, names, union, add
 use Rattle.model.specs.Meaning.{Meaning, class_under, allowed}
 use Rattle.model.specs.Round.{Outcome, outcome, steps}
 use Rattle.stored.proofs.Forests.{join}
-use Rattle.area.specs.declared.regions.Table.{Table}
-use Rattle.area.specs.declared.regions.Table.TheVariants.{Archive, Field, Bench}
+use Rattle.tables.specs.declared.Table.{Table}
+use Rattle.tables.specs.declared.Table.TheVariants.{Archive, Field, Bench}
 use Rattle.merging.specs.declared.types.Frame.{Frame}
 use Rattle.merging.specs.Tables.{tree_of}
 

@@ -2,13 +2,14 @@
 use Rattle.std.specs.Prelude.{◌≡◌, ℕ, ◌+◌, ◌≤◌, true, ◌||◌, List}
 use Rattle.model.specs.Trees.{Tree, Forest, empty, child, find, nodes}
 use Rattle.stored.specs.Lookup.{Between, from_on, starts}
-use Rattle.stored.specs.declared.Spot.{Spot}
+use Rattle.stored.specs.Lookup.{Spot, at_of}
 use Rattle.area.specs.declared.types.Area.{Area}
-use Rattle.area.specs.declared.regions.Table.{Table}
-use Rattle.area.specs.declared.regions.Table.TheVariants.{Field, Bench}
-use Rattle.merging.specs.declared.types.Sizes.{Sizes}
+use Rattle.tables.specs.declared.Table.{Table}
+use Rattle.tables.specs.declared.Table.TheVariants.{Field, Bench}
+use Rattle.merging.specs.Tables.{Sizes}
 use Rattle.merging.specs.declared.types.Here.{Here}
-use Rattle.merging.specs.Tables.{At, pick, spot, sources}
+use Rattle.merging.specs.Tables.{At, spot, sources}
+use Rattle.tables.specs.Pick.{pick}
 
 -- Trees that stand where lookups of one name stopped.
 abbrev pub Finds : Area → Here → (Table → Tree) → Type 0
@@ -31,9 +32,9 @@ pub record Least (k : ℕ) (f g : Forest) : Type 0 where
 
 -- What a lookup of k tells: the tree, and where the others are.
 pub record Seen (ws : List ℕ) (from end k : ℕ) (f : Forest) (s : Spot) : Type 0 where
-  pub since : from ≤ s.at
+  pub since : from ≤ at_of s
   pub here : At ws k s (find f k)
-  pub then : Between ws (s.at + nodes (find f k)) end (from_on (k + 1) f)
+  pub then : Between ws (at_of s + nodes (find f k)) end (from_on (k + 1) f)
 
 pub record Looked (area : Area) (at ends : Sizes) (left : Table → Forest) (h : Here) : Type 0 where
   pub least : Least h.name (left Field) (left Bench)

@@ -2,8 +2,8 @@
 use Rattle.model.specs.Trees.{Tree, mark}
 use Rattle.model.specs.Round.{Outcome, outcome, Verdict, settled, below}
 use Rattle.std.specs.Prelude.{Some, None, Option}
-use Rattle.area.specs.declared.regions.Table.{Table}
-use Rattle.area.specs.declared.regions.Table.TheVariants.{Archive, Field, Bench}
+use Rattle.tables.specs.declared.Table.{Table}
+use Rattle.tables.specs.declared.Table.TheVariants.{Archive, Field, Bench}
 use Rattle.merging.specs.declared.types.Step.{Step}
 use Rattle.merging.specs.declared.types.Step.TheVariants.{Agreed, TakeBench, TakeField, Mark, Down}
 

@@ -1,23 +1,24 @@
 // Closing a node whose children are all merged.
-ghost use Rattle.std.specs.Prelude.{◌≡◌, ℕ, ◌+◌, ◌*◌, ◌≤◌, ◌&&◌, [], ◌∷◌, take};
+ghost use Rattle.std.specs.Prelude.{◌≡◌, ℕ, ◌+◌, ◌*◌, ◌≤◌, ◌&&◌, [], ◌∷◌, take, Ok};
 ghost use Rattle.model.specs.Trees.{Tree, mark, Forest, names, nodes};
 ghost use Rattle.model.specs.Meaning.{allowed as is_allowed};
 ghost use Rattle.model.specs.Round.{outcome};
 ghost use Rattle.area.specs.Views.{view, limit, Only};
-ghost use Rattle.area.specs.declared.regions.Table.TheVariants.{Archive, Field, Bench};
+ghost use Rattle.tables.specs.declared.Table.TheVariants.{Archive, Field, Bench};
 ghost use Rattle.area.specs.declared.regions.Region.TheVariants.{New, Names};
-ghost use Rattle.merging.specs.Tables.{At, pick, tree_of, sources, found_at};
+ghost use Rattle.merging.specs.Tables.{At, tree_of, sources};
+ghost use Rattle.tables.specs.Pick.{pick};
 ghost use Rattle.merging.specs.Outputs.{Grown, Listing};
 ghost use Rattle.merging.specs.Levels.{Level, sealed};
 ghost use Rattle.merging.specs.Going.{Closing};
 
 use crate::outputs::{seal_all, settle};
-use crate::places::found;
 use crate::types::{Frame, Here, Sizes, Step};
 use area::{Area, Region, Table};
 use obeying::allowed;
 use rules::Rulebook;
-use stored::Spot;
+use stored::Node;
+use tables::Three;
 
 // Puts the names of the children of a written node into the region for names, and gives their number.
 pub fn gather(area: &mut Area, t: Table, at: usize, end: usize) -> usize
@@ -28,6 +29,7 @@ pub fn gather(area: &mut Area, t: Table, at: usize, end: usize) -> usize
 {
     let mut pos = at + 1;
     let mut count = 0;
+    // A loop of its own: what is being written is not yet known to be a tree, as a `Node` is.
     while pos < end {
         let name = area.get(Region::New(t), 3 * pos);
         area.set(Region::Names, count, name);
@@ -69,18 +71,17 @@ pub fn both_allowed<R: Rulebook>(rules: &R, area: &mut Area, frame: Frame, new: 
 
 // Writes a mark for the archive in place of a node, and both copies of it as they came.
 pub fn roll_back(area: &mut Area, frame: Frame) -> Sizes
-    requires { (k : ℕ) × (a b : Tree) × At (sources area.old Field) k (found_at frame.field) a × At (sources area.old Bench) k (found_at frame.bench) b × ((t : Table) → pick t frame.new + (nodes a + nodes b) ≤ limit area.old * 2) }
-    ensures grows { (k : ℕ) (a b : Tree) → At (sources area.old Field) k (found_at frame.field) a → At (sources area.old Bench) k (found_at frame.bench) b → (t : Table) → Grown (view area.old (New t)) (view area.new (New t)) (pick t frame.new) (pick t result) k (tree_of t (outcome mark a b)) }
+    requires { (k : ℕ) × (a b : Tree) × At (sources area.old Field) k (Ok frame.field) a × At (sources area.old Bench) k (Ok frame.bench) b × ((t : Table) → pick t frame.new + (nodes a + nodes b) ≤ limit area.old * 2) }
+    ensures grows { (k : ℕ) (a b : Tree) → At (sources area.old Field) k (Ok frame.field) a → At (sources area.old Bench) k (Ok frame.bench) b → (t : Table) → Grown (view area.old (New t)) (view area.new (New t)) (pick t frame.new) (pick t result) k (tree_of t (outcome mark a b)) }
     ensures only { Only (New Archive ∷ New Field ∷ New Bench ∷ []) area.old area.new }
 {
     let here = Here {
-        name: stored::name(area.part(Region::Tree(Table::Field)), frame.field),
-        archive: Spot {
-            at: 0,
-            found: false,
+        name: Node::at(area.part(Region::Tree(Table::Field)), frame.field).name(),
+        places: Three {
+            archive: Err(0),
+            field: Ok(frame.field),
+            bench: Ok(frame.bench),
         },
-        field: found(frame.field),
-        bench: found(frame.bench),
     };
     settle(area, here, Step::Mark, frame.new)
 }

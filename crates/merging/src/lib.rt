@@ -6,7 +6,7 @@ ghost use Rattle.model.specs.Trees.{Tree};
 ghost use Rattle.model.specs.Round.{Outcome, round as round_of};
 ghost use Rattle.model.specs.Safety.{Ready};
 ghost use Rattle.area.specs.Views.{Only};
-ghost use Rattle.area.specs.declared.regions.Table.TheVariants.{Archive, Field, Bench};
+ghost use Rattle.tables.specs.declared.Table.TheVariants.{Archive, Field, Bench};
 ghost use Rattle.area.specs.declared.regions.Region.TheVariants.{New, Stack, Names};
 ghost use Rattle.merging.specs.Held.{Held, Merged};
 ghost use Rattle.merging.specs.Going.{Opening, Opens, Topped, Busy, State, work};
@@ -21,9 +21,10 @@ use area::{Area, Region, Table};
 use closing::close;
 use obeying::class_under;
 use outputs::{open_all, settle};
-use places::{choose, inside, look, past_all, whole};
+use places::{choose, inside, look, past_all, place, whole};
 use rules::Rulebook;
 use stack::{FRAME, push, top};
+use tables::Three;
 pub use types::Sizes;
 use types::{Frame, Here, Step, Walk};
 
@@ -36,16 +37,16 @@ fn descend(area: &mut Area, class: Option<u32>, here: Here, walk: Walk) -> Walk
     let frame = Frame {
         class,
         ends: past_all(area, here),
-        field: here.field.at,
-        bench: here.bench.at,
+        field: place(here.places.field),
+        bench: place(here.places.bench),
         new: walk.new,
     };
     Walk {
         top: push(area, walk.top, frame),
         at: Sizes {
-            archive: inside(here.archive),
-            field: inside(here.field),
-            bench: inside(here.bench),
+            archive: inside(here.places.archive),
+            field: inside(here.places.field),
+            bench: inside(here.places.bench),
         },
         new: open_all(area, here.name, walk.new),
     }
@@ -100,6 +101,7 @@ fn finish<R: Rulebook>(rules: &R, area: &mut Area, start: Walk) -> Sizes
 {
     let full = area.size(Region::Stack);
     let mut walk = start;
+    // fixed memory: a walk whose stack stands in the area, with no index that is counted to an end
     while walk.top < full {
         walk = turn(rules, area, walk);
     }
@@ -114,9 +116,11 @@ pub fn round<R: Rulebook>(rules: &R, area: &mut Area, sizes: Sizes) -> Sizes
 {
     let here = Here {
         name: 0,
-        archive: whole(sizes.archive),
-        field: whole(sizes.field),
-        bench: whole(sizes.bench),
+        places: Three {
+            archive: whole(sizes.archive),
+            field: whole(sizes.field),
+            bench: whole(sizes.bench),
+        },
     };
     let none = Sizes {
         archive: 0,

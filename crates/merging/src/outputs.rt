@@ -2,17 +2,17 @@
 ghost use Rattle.std.specs.Prelude.{◌≡◌, ℕ, ◌+◌, ◌*◌, ◌<◌, ◌≤◌, [], ◌∷◌, ◌++◌, take};
 ghost use Rattle.model.specs.Trees.{Tree, node, Forest, nodes};
 ghost use Rattle.area.specs.Views.{view, limit, Only};
-ghost use Rattle.area.specs.declared.regions.Table.TheVariants.{Archive, Field, Bench};
+ghost use Rattle.tables.specs.declared.Table.TheVariants.{Archive, Field, Bench};
 ghost use Rattle.area.specs.declared.regions.Region.TheVariants.{Tree as Old, New};
-ghost use Rattle.merging.specs.Tables.{At, pick, tree_of};
+ghost use Rattle.merging.specs.Tables.{At, tree_of};
+ghost use Rattle.tables.specs.Pick.{pick};
 ghost use Rattle.merging.specs.Steps.{made, source_of};
 ghost use Rattle.merging.specs.Looking.{Finds};
 ghost use Rattle.merging.specs.Outputs.{Grown, Opened};
 
-use crate::places::spot;
 use crate::types::{Here, Sizes, Step};
 use area::{Area, Region, Table};
-use stored::Spot;
+use stored::{Node, Spot};
 
 // The table whose tree a step puts into another, or none where it puts a mark.
 pub fn source(step: Step, to: Table) -> Option<Table>
@@ -38,17 +38,16 @@ pub fn put(area: &mut Area, from: Table, x: Spot, to: Table, at: usize) -> usize
     ensures grows { (k : ℕ) (a : Tree) → At (view area.old (Old from)) k x a → Grown (view area.old (New to)) (view area.new (New to)) at result k a }
     ensures only { Only (New to ∷ []) area.old area.new }
 {
-    if x.found {
-        let count = stored::node_count(area.part(Region::Tree(from)), x.at) as usize;
-        let (source, target) = (Region::Tree(from), Region::New(to));
-        area.copy(source, 3 * x.at, target, 3 * at, 3 * count);
-        at + count
-    } else {
-        at
-    }
+    let Ok(place) = x else {
+        return at;
+    };
+    let count = Node::at(area.part(Region::Tree(from)), place).node_count();
+    let (source, target) = (Region::Tree(from), Region::New(to));
+    area.copy(source, 3 * place, target, 3 * at, 3 * count);
+    at + count
 }
 
-// Writes one node.
+// Writes one node: three words of the fixed memory, the kind as it stands there.
 pub fn put_node(area: &mut Area, to: Table, at: usize, name: u32, count: u32, kind: u32) -> usize
     requires { at < limit area.old * 2 }
     ensures end { result ≡ at + 1 }
@@ -67,7 +66,7 @@ pub fn put_settled(area: &mut Area, here: Here, step: Step, to: Table, at: usize
     ensures only { Only (New to ∷ []) area.old area.new }
 {
     match source(step, to) {
-        Some(from) => put(area, from, spot(here, from), to, at),
+        Some(from) => put(area, from, here.places.get(from), to, at),
         None => put_node(area, to, at, here.name, 1, 1),
     }
 }

@@ -2,6 +2,7 @@
 ghost use Rattle.std.specs.Prelude.{◌≡◌, ℕ, ◌+◌, ◌*◌, ◌≤◌, List, [], ◌∷◌, ◌++◌, drop, Option};
 ghost use Rattle.area.specs.Views.{view, limit, Only};
 ghost use Rattle.area.specs.declared.regions.Region.TheVariants.{Stack};
+ghost use Rattle.merging.specs.Tables.{Sizes};
 ghost use Rattle.merging.specs.Frames.{flag as flag_of, number as number_of, frame_words, Low};
 
 use crate::types::{Frame, Sizes};
@@ -9,6 +10,8 @@ use area::{Area, Region};
 
 // The words of a frame.
 pub const FRAME: usize = 10;
+
+// fixed memory: the stack is words, so an optional class is two of them.
 
 // Whether there is a class, and its number: any number may be that of a class.
 pub fn flag(class: Option<u32>) -> u32

@@ -1,15 +1,12 @@
 // What a round keeps in its variables.
 use stored::Spot;
+use tables::Three;
 
-// Numbers of nodes, one for each table.
-#[derive(Clone, Copy)]
-pub struct Sizes {
-    pub archive: usize,
-    pub field: usize,
-    pub bench: usize,
-}
+// Numbers of nodes.
+pub type Sizes = Three<usize>;
 
-// The step that settles a place, or the step down to its children.
+// The step that settles a place, or the step down to its children. An enum, since the steps are the cases of the round's definition, and what they do
+// differs by table: closures would have to be told apart again.
 #[derive(Clone, Copy)]
 pub enum Step {
     // both copies are equal
@@ -27,9 +24,7 @@ pub enum Step {
 #[derive(Clone, Copy)]
 pub struct Here {
     pub name: u32,
-    pub archive: Spot,
-    pub field: Spot,
-    pub bench: Spot,
+    pub places: Three<Spot>,
 }
 
 // What the stack keeps of a node whose children are being merged: its class, where its children end in each table, where both copies have it,

@@ -12,3 +12,4 @@ pub mod Faults
 pub mod Tests
 pub mod Edits
 pub mod Obeying
+pub mod Once

@@ -1,3 +1,2 @@
-pub mod Lowest
-pub mod Stages
-pub mod Copies
+pub mod Walking
+pub mod Views

@@ -7,11 +7,7 @@ use Rattle.refusals.specs.declared.Refusal.{Refusal}
 use Rattle.refusals.specs.declared.Reason.TheVariants.{Disobeys}
 use Rattle.refusals.specs.declared.Whose.{Whose}
 use Rattle.refusals.specs.Numbers.{refused}
-use Rattle.records.specs.declared.Wanted.{Wanted}
-use Rattle.records.specs.declared.TreeKind.TheVariants.{Copy}
-
-abbrev pub copy_of : Whose → ℕ → Wanted
-copy_of whose depth = record { kind = Copy; whose = whose; depth = depth }
+pub use Rattle.records.specs.Reading.{copy_of}
 
 abbrev pub faulty : Whose → Tree → Option ℕ → Result Tree Refusal
 faulty whose t None = Ok t

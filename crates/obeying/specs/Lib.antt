@@ -1,2 +1,2 @@
-pub mod Lower
+pub mod Heading
 pub mod Lawful

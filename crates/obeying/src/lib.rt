@@ -1,39 +1,38 @@
 // Whether the tree of a record file obeys a rulebook, tested on the bytes.
 #![tactic(auto)]
 
-ghost use Rattle.std.specs.Prelude.{◌≡◌, ℕ, ◌<◌, Some, Ok};
-ghost use Rattle.model.specs.Trees.{Tree, marks};
+ghost use Rattle.std.specs.Prelude.{◌≡◌, ◌+◌, ◌-◌, ◌<◌, ◌≤◌, List, length, Some, IfOk};
+ghost use Rattle.model.specs.Trees.{Tree, nodes};
 ghost use Rattle.model.specs.Meaning.{class_under, class_at, allowed as is_allowed};
-ghost use Rattle.model.specs.Faults.{first_fault};
-ghost use Rattle.records.specs.Files.{Shows};
-ghost use Rattle.records.specs.Reading.{says, then, viewed, view_of};
-ghost use Rattle.records.specs.Files.{Fits, EndsWith};
 ghost use Rattle.model.specs.Meaning.{Obeys};
-ghost use Rattle.obeying.specs.Lower.{lower, own};
-ghost use Rattle.obeying.specs.Lawful.{lawful, copy_of};
+ghost use Rattle.model.specs.Faults.{fault_from, first_fault};
+ghost use Rattle.records.specs.declared.Entry.{Entry as TheEntry};
+ghost use Rattle.records.specs.Bytes.{entries_of};
+ghost use Rattle.records.specs.Reading.{says, then, passed, copy_of};
+ghost use Rattle.records.specs.Views.{tree_of, trees_of, LiesIn};
+ghost use Rattle.records.specs.Files.{Fits, EndsWith};
+ghost use Rattle.obeying.specs.Heading.{Heads};
+ghost use Rattle.obeying.specs.Lawful.{lawful};
 
-use records::{TreeKind, View, Wanted, read, record_at};
+use records::{Entry, NodeKind, TreeKind, View, Wanted, read};
 use refusals::{Reason, Refusal, Whose};
 use rules::Rulebook;
 
-// A node whose children are being read: its class and number, where the names of its children begin in the list of names, and how many children
-// are still to come.
-#[derive(Clone, Copy)]
-pub struct Level {
-    pub class: Option<u32>,
-    pub node: usize,
-    pub first: usize,
-    pub left: u32,
+// The most nodes of a tree.
+const MOST_NODES: usize = 4096;
+
+// A test of a tree of so many nodes.
+#[derive(Drop)]
+struct Test<'a, R> {
+    rules: &'a R,
+    count: usize,
 }
 
 // The class under a name; below no class there is none.
 pub fn class_under<R: Rulebook>(rules: &R, class: Option<u32>, name: u32) -> Option<u32>
     ensures { result ≡ class_under (R.meaning rules.now) class name }
 {
-    match class {
-        Some(class) => rules.class_under(class, name),
-        None => None,
-    }
+    class.and_then(|class| rules.class_under(class, name))
 }
 
 // The class at the end of a path from the root, which is of class 0.
@@ -51,101 +50,90 @@ pub fn class_at<R: Rulebook>(rules: &R, path: &[u32]) -> Option<u32>
 pub fn allowed<R: Rulebook>(rules: &R, class: Option<u32>, names: &[u32]) -> bool
     ensures { result ≡ is_allowed (R.meaning rules.now) class names.now }
 {
-    match class {
-        Some(class) => rules.allowed(class, names),
-        None => false,
-    }
+    class.is_some_and(|class| rules.allowed(class, names))
 }
 
-// The lower of the faults found so far and a node, if the names of that node are not allowed.
-fn close<R: Rulebook>(rules: &R, level: Level, names: &[u32], fault: Option<usize>) -> Option<usize>
-    ensures { result ≡ lower fault (own (R.meaning rules.now) level.class level.node names.now) }
-{
-    if allowed(rules, level.class, names) {
-        return fault;
-    }
-    match fault {
-        Some(found) => Some(found.min(level.node)),
-        None => Some(level.node),
-    }
-}
-
-// The number of the first node, in file order, whose names the rulebook does not allow, if the root of the tree is of this class.
-// Each name is put on a list when its record is read, and a node is tested when all its children have been read: each record is read once.
-pub fn first_unlawful<R: Rulebook>(
-    rules: &R,
-    class: Option<u32>,
-    bytes: &[u8],
-    view: View,
-) -> Option<usize>
-    requires { (t : Tree) × Shows bytes.now view t × (marks t ≡ 0) }
-    ensures { (t : Tree) → Shows bytes.now view t → marks t ≡ 0 → result ≡ first_fault (R.meaning rules.now) class t }
-{
-    if view.count == 0 {
-        return None;
-    }
-    let root = record_at(bytes, view.start);
-    let mut names = [0u32; 4096];
-    let mut levels = [Level {
-        class,
-        node: 0,
-        first: 0,
-        left: root.children,
-    }; 33];
-    let mut top: usize = 32;
-    let mut used: usize = 0;
-    let mut at: usize = 1;
-    let mut fault = None;
-    while top < 33 {
-        let level = levels[top];
-        if level.left == 0 {
-            let first = level.first;
-            fault = close(rules, level, &names[first..used], fault);
-            used = first;
-            top += 1;
+impl<R: Rulebook> Test<'_, R> {
+    // The number of the first unlawful node of a tree whose first record was read already. What is left of the records then are those behind the
+    // tree. The names of the children are put together at the front of `names`, and those of all below them behind: each record is read once.
+    fn node(
+        &self,
+        rest: &mut &[[u8; 8]],
+        class: Option<u32>,
+        entry: Entry,
+        names: &mut [u32],
+    ) -> Option<usize>
+        requires tree { (t : Tree) × (more : List TheEntry) × Heads entry (entries_of rest.old.now) t more × (nodes t ≤ length names.old + 1) }
+        requires number { length rest.old.now < self.now.count }
+        ensures fault { (t : Tree) (more : List TheEntry) → Heads entry (entries_of rest.old.now) t more → result ≡ fault_from (R.meaning self.now.rules.now) class t (self.now.count - 1 - length rest.old.now) }
+        ensures behind { (t : Tree) (more : List TheEntry) → Heads entry (entries_of rest.old.now) t more → entries_of rest.new.now ≡ more }
+    {
+        let at = self.count - 1 - rest.len();
+        if entry.kind == NodeKind::Mark.code() {
+            return Some(at);
+        }
+        let (own, room) = names.split_at_mut(entry.children as usize);
+        let mut fault = None;
+        for name in own.iter_mut() {
+            let (record, below) = rest.split_first().unwrap();
+            *rest = below;
+            let child = Entry::from(*record);
+            *name = child.name;
+            let under = class_under(self.rules, class, child.name);
+            let found = self.node(rest, under, child, room);
+            fault = fault.or(found);
+        }
+        if allowed(self.rules, class, own) {
+            fault
         } else {
-            let child = record_at(bytes, view.start + 8 * at);
-            let under = class_under(rules, level.class, child.name);
-            levels[top] = Level {
-                class: level.class,
-                node: level.node,
-                first: level.first,
-                left: level.left - 1,
-            };
-            names[used] = child.name;
-            used += 1;
-            top -= 1;
-            levels[top] = Level {
-                class: under,
-                node: at,
-                first: used,
-                left: child.children,
-            };
-            at += 1;
+            Some(at)
         }
     }
-    fault
+}
+
+// The number of the first node, in file order, whose names the rulebook does not allow, if the root of the tree is of this class. A mark is such
+// a node.
+pub fn first_unlawful<R: Rulebook>(rules: &R, class: Option<u32>, view: View) -> Option<usize>
+    ensures { result ≡ first_fault (R.meaning rules.now) class (tree_of view.entry) }
+{
+    let (record, mut rest) = view.records.split_first()?;
+    // fixed memory: there is no heap for the names
+    let mut names = [0u32; MOST_NODES];
+    let test = Test {
+        rules,
+        count: view.count(),
+    };
+    test.node(&mut rest, class, Entry::from(*record), &mut names)
+}
+
+// Holds the tree of a view to the rulebook.
+pub fn hold<R: Rulebook>(
+    rules: &R,
+    class: Option<u32>,
+    whose: Whose,
+    view: View,
+) -> Result<(), Refusal>
+    ensures { result ≡ passed tt (lawful (R.meaning rules.now) class whose (tree_of view.entry)) }
+{
+    match first_unlawful(rules, class, view) {
+        Some(node) => Err(Reason::Disobeys.refuse(whose, node)),
+        None => Ok(()),
+    }
 }
 
 // Reads the file of a copy and holds its tree to the rulebook, from a class and a depth of its root on.
-pub fn read_copy<R: Rulebook>(
+pub fn read_copy<'a, R: Rulebook>(
     rules: &R,
     class: Option<u32>,
-    bytes: &[u8],
+    bytes: &'a [u8],
     whose: Whose,
     depth: usize,
-) -> Result<View, Refusal>
-    ensures answer { result ≡ viewed bytes.now (then (says bytes.now (copy_of whose depth)) (lawful (R.meaning rules.now) class whose)) }
-    ensures obeys { (v : View) → result ≡ Ok v → (t : Tree) × Fits (copy_of whose depth) t × EndsWith bytes.now t TreeKind.Copy × Obeys (R.meaning rules.now) class t × (v ≡ view_of bytes.now t) }
+) -> Result<View<'a>, Refusal>
+    ensures answer { trees_of result ≡ then (says bytes.now (copy_of whose depth)) (lawful (R.meaning rules.now) class whose) }
+    ensures place { IfOk result (λ v. LiesIn bytes.now v) }
+    ensures obeys { IfOk result (λ v. Fits (copy_of whose depth) (tree_of v) × EndsWith bytes.now (tree_of v) TreeKind.Copy × Obeys (R.meaning rules.now) class (tree_of v)) }
 {
-    let wanted = Wanted {
-        kind: TreeKind::Copy,
-        whose,
-        depth,
-    };
-    let view = read(bytes, wanted)?;
-    match first_unlawful(rules, class, bytes, view) {
-        Some(node) => Err(Reason::Disobeys.refuse(whose, node)),
-        None => Ok(view),
-    }
+    let view = read(bytes, Wanted::copy(whose, depth))?;
+    hold(rules, class, whose, view)?;
+    Ok(view)
 }

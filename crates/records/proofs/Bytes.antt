@@ -4,6 +4,10 @@ use Rattle.std.proofs.lemmas.List.{drop_more}
 use Rattle.records.specs.declared.Entry.{Entry}
 use Rattle.records.specs.Bytes.{two_bytes, four_bytes, entry_at, entries, put_entry, put_all}
 
+pub length_entries : (m : ℕ) (bs : List ℕ) (at : ℕ) → length (entries m bs at) ≡ m
+length_entries zero bs at = refl
+length_entries (suc m) bs at = ap suc (length_entries m bs (at + 8))
+
 pub two_back : (n : ℕ) → n < 65536 → 256 * (n / 256 % 256) + n % 256 ≡ n
 two_back n h = omega arith
 

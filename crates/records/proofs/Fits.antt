@@ -5,28 +5,28 @@ use Rattle.std.proofs.lemmas.Bool.{eqb-true, eq-eqb, le-leb, leb-true, ltb-true,
 use Rattle.records.specs.declared.Entry.{Entry}
 use Rattle.records.specs.declared.TreeKind.{TreeKind}
 use Rattle.records.specs.declared.Wanted.{Wanted}
-use Rattle.records.specs.declared.View.{View}
+use Rattle.records.specs.declared.Elder.{Elder}
+use Rattle.records.specs.declared.Elder.TheVariants.{Root, First, After}
 use Rattle.records.specs.declared.TreeKind.TheVariants.{Copy, Archive}
 use Rattle.refusals.specs.declared.Refusal.{Refusal}
 use Rattle.refusals.specs.declared.Reason.TheVariants.{Short, Trailer, Count}
 use Rattle.model.specs.Trees.{Tree, missing, mark, node, Forest, empty, child, names, present, Below, Ascends, WellFormed, WellFormedAll, Named, NamedAll, is_name, nodes, nodes_all, marks, marks_all, depth, depth_all}
 use Rattle.records.specs.Bytes.{two_bytes, four_bytes, entry, entry_at, entries, put_entry, put_all, tree_code}
-use Rattle.records.specs.Reading.{no, then, Elder, root, first, after, named, may_miss, grown, read, closed, whole, says, sealed, tail_at, records_of, view_of, viewed}
+use Rattle.records.specs.Reading.{no, then, named, may_miss, grown, read, closed, whole, says, sealed, Tail, tail_at, records_of, located}
 use Rattle.records.specs.Writing.{tell, tells, put_tail}
-use Rattle.records.specs.Files.{Fits, EndsWith, Shows, Bytes, WrittenIsRead, ReadIsWritten}
-use Rattle.records.proofs.Walks.{length_entries}
-use Rattle.records.proofs.Bytes.{Small, decode, decode_all, encode, encode_all, behind_put}
+use Rattle.records.specs.Files.{Fits, EndsWith, Bytes, WrittenIsRead, ReadIsWritten}
+use Rattle.records.proofs.Bytes.{length_entries, Small, decode, decode_all, encode, encode_all, behind_put}
 use Rattle.records.proofs.Laws.{Holds, cond_holds, Grows, Rises, Sits, Told, whole_told, length_tell, says_whole}
 
 abbrev Heads : Elder → List ℕ → Type 0
 Heads el [] = Unit {0}
 Heads el (k ∷ ks) = named el k ≡ true
 
-heads_first : (ks : List ℕ) → Heads first ks
+heads_first : (ks : List ℕ) → Heads First ks
 heads_first [] = tt
 heads_first (k ∷ ks) = refl
 
-heads_after : (n : ℕ) (ks : List ℕ) → Below n ks → Heads (after n) ks
+heads_after : (n : ℕ) (ks : List ℕ) → Below n ks → Heads (After n) ks
 heads_after n [] b = tt
 heads_after n (k ∷ ks) b = lt-ltb n k b.0
 
@@ -40,7 +40,7 @@ mutual
   grows w room missing h s d m = absurd h
   grows Copy room mark h s d m = absurd (omega (arith, m refl))
   grows Archive room mark h s d m = refl
-  grows w room (node f) h s d m = rises w room first f (heads_first (names f)) s.0 s.1 d m
+  grows w room (node f) h s d m = rises w room First f (heads_first (names f)) s.0 s.1 d m
 
   rises : (w : TreeKind) (room : ℕ) (el : Elder) (f : Forest) → Heads el (names f) → Ascends (names f) → WellFormedAll f → depth_all f ≤ room → (w ≡ Copy → marks_all f ≡ 0) → Rises w room el f
   rises w room el empty h a s d m = tt
@@ -48,7 +48,7 @@ mutual
   rises w (suc room) el (child n t f) h a s d m = (
     h,
     grows w room t s.0 s.1 (omega arith) (λ e. omega (arith, m e)),
-    rises w (suc room) (after n) f (heads_after n (names f) a.0) a.1 s.2 (omega arith) (λ e. omega (arith, m e)),
+    rises w (suc room) (After n) f (heads_after n (names f) a.0) a.1 s.2 (omega arith) (λ e. omega (arith, m e)),
   )
 
 -- And what is held is sound.
@@ -64,7 +64,7 @@ pub record Goods (w : TreeKind) (room : ℕ) (f : Forest) : Type 0 where
   pub shallow : depth_all f ≤ room
   pub unmarked : w ≡ Copy → marks_all f ≡ 0
 
-rises_below : (w : TreeKind) (room n : ℕ) (f : Forest) → Rises w room (after n) f → Below n (names f)
+rises_below : (w : TreeKind) (room n : ℕ) (f : Forest) → Rises w room (After n) f → Below n (names f)
 rises_below w room n empty r = tt
 rises_below w zero n (child k t f) r = absurd r
 rises_below w (suc room) n (child k t f) r =
@@ -77,7 +77,7 @@ mutual
   good Copy room mark g = let z : ◌≡◌ {A = ℕ} 0 1 = cc in absurd (omega arith)
   good Archive room mark g = record { stands = tt; sound = tt; shallow = omega arith; unmarked = λ e. let z : ◌≡◌ {A = ℕ} 0 1 = cc in absurd (omega arith) }
   good w room (node f) g =
-      let h = goods w room first f g in
+      let h = goods w room First f g in
       record { stands = tt; sound = (h.ascends, h.sound); shallow = h.shallow; unmarked = h.unmarked }
 
   goods : (w : TreeKind) (room : ℕ) (el : Elder) (f : Forest) → Rises w room el f → Goods w room f
@@ -85,7 +85,7 @@ mutual
   goods w zero el (child n t f) r = absurd r
   goods w (suc room) el (child n t f) r =
       let a = good w room t r.1 in
-      let b = goods w (suc room) (after n) f r.2 in
+      let b = goods w (suc room) (After n) f r.2 in
       record {
         ascends = (rises_below w (suc room) n f r.2, b.ascends);
         sound = (a.stands, a.sound, b.sound);
@@ -99,17 +99,17 @@ mutual
       → read w end room (length (names f)) el (tells f rest) ≡ Ok (grown f rest)
   back w end room el empty rest r = refl
   back w end zero el (child n t f) rest r = absurd r
-  back w end (suc room) el (child n t f) rest r = back_at w end room el n t f rest r.0 r.1 (back w end (suc room) (after n) f rest r.2)
+  back w end (suc room) el (child n t f) rest r = back_at w end room el n t f rest r.0 r.1 (back w end (suc room) (After n) f rest r.2)
 
   back_at : (w : Wanted) (end room : ℕ) (el : Elder) (n : ℕ) (t : Tree) (f : Forest) (rest : List Entry) → named el n ≡ true → Grows w.kind room t
-      → read w end (suc room) (length (names f)) (after n) (tells f rest) ≡ Ok (grown f rest)
+      → read w end (suc room) (length (names f)) (After n) (tells f rest) ≡ Ok (grown f rest)
       → read w end (suc room) (suc (length (names f))) el (tell t n (tells f rest)) ≡ Ok (grown (child n t f) rest)
   back_at w end room el n missing f rest a g h = absurd g
   back_at w end room el n mark f rest a g h = rw (g, a, h)
-  back_at w end room el n (node u) f rest a g h = rw (a, back w end room first u (tells f rest) g, h)
+  back_at w end room el n (node u) f rest a g h = rw (a, back w end room First u (tells f rest) g, h)
 
 -- Records whose numbers fit their fields.
-names_few : (f : Forest) → WellFormedAll f → length (names f) ≤ nodes_all f
+pub names_few : (f : Forest) → WellFormedAll f → length (names f) ≤ nodes_all f
 names_few empty s = omega arith
 names_few (child n missing f) s = absurd s.0
 names_few (child n mark f) s = omega (arith, names_few f s.2)
@@ -160,13 +160,13 @@ small_entries (suc n) bs at s = (
 )
 
 -- A whole file of records.
-rooted : (w : TreeKind) (d : ℕ) (t : Tree) → d ≤ 32 → Grows w (32 - d) t → Rises w (33 - d) root (child 0 t empty)
-rooted w d t l g = let e : suc (32 - d) ≡ 33 - d = omega arith in let r : Rises w (suc (32 - d)) root (child 0 t empty) = (refl, g, tt) in subst (λ k. Rises w k root (child 0 t empty)) e r
+rooted : (w : TreeKind) (d : ℕ) (t : Tree) → d ≤ 32 → Grows w (32 - d) t → Rises w (33 - d) Root (child 0 t empty)
+rooted w d t l g = let e : suc (32 - d) ≡ 33 - d = omega arith in let r : Rises w (suc (32 - d)) Root (child 0 t empty) = (refl, g, tt) in subst (λ k. Rises w k Root (child 0 t empty)) e r
 
-one : (w : Wanted) (end : ℕ) (t : Tree) → w.depth ≤ 32 → Grows w.kind (32 - w.depth) t → then (read w end (33 - w.depth) 1 root (tell t 0 [])) (closed w end) ≡ Ok t
-one w end t l g = ap (λ r. then r (closed w end)) (back w end (33 - w.depth) root (child 0 t empty) [] (rooted w.kind w.depth t l g))
+one : (w : Wanted) (end : ℕ) (t : Tree) → w.depth ≤ 32 → Grows w.kind (32 - w.depth) t → then (read w end (33 - w.depth) 1 Root (tell t 0 [])) (closed w end) ≡ Ok t
+one w end t l g = ap (λ r. then r (closed w end)) (back w end (33 - w.depth) Root (child 0 t empty) [] (rooted w.kind w.depth t l g))
 
-whole_back : (w : Wanted) (end : ℕ) (t : Tree) → Fits w t → whole w end (tell t 0 []) ≡ Ok t
+pub whole_back : (w : Wanted) (end : ℕ) (t : Tree) → Fits w t → whole w end (tell t 0 []) ≡ Ok t
 whole_back w end missing f = go (may_miss w.whose) f.stands
   where
     go : (b : Bool) → (b || false) ≡ true → cond b (Ok missing) (Err (no w Count end)) ≡ Ok missing
@@ -178,6 +178,14 @@ whole_back w end (node g) f = one w end (node g) (omega (arith, f.shallow tt)) (
 seals : (w : TreeKind) (len v k n q : ℕ) → v ≡ 1 → k ≡ tree_code w → n ≤ 4096 → q ≡ 8 * n + 8 → q ≤ len
     → (eqb v 1 && (eqb k (tree_code w) && (leb n 4096 && (eqb q (8 * n + 8) && leb q len)))) ≡ true
 seals w len v k n q a b c d e = rw (eq-eqb v 1 a, eq-eqb k (tree_code w) b, le-leb n 4096 c, eq-eqb q (8 * n + 8) d, le-leb q len e)
+
+-- The records of a file that ends with a tree that fits.
+pub file_records : (bs : List ℕ) (w : Wanted) (t : Tree) → Fits w t → EndsWith bs t w.kind → entries (nodes t) bs (length bs - (8 * nodes t + 8)) ≡ tell t 0 []
+file_records bs w t fit ends =
+    let es = tell t 0 [] in
+    let l : length es ≡ nodes t = length_tell t 0 [] ∙ omega arith in
+    let p = length bs - (8 * nodes t + 8) in
+    ap (λ k. entries k bs p) (sym l) ∙ decode_all es bs p (put_tail (nodes t) w.kind) ends.file (small t 0 [] (omega arith) fit.well_formed fit.narrow fit.few tt)
 
 pub written_is_read : WrittenIsRead
 written_is_read bs w t fit ends =
@@ -195,8 +203,7 @@ written_is_read bs w t fit ends =
     let s = seals w.kind len (get_or bs (len - 8 + 7) 0) (get_or bs (len - 8 + 6) 0) (two_bytes bs (len - 8 + 4)) (four_bytes bs (len - 8)) (ap (λ (e : Entry). e.last) x.is) (ap (λ (e : Entry). e.kind) x.is) (omega (arith, fit.few)) (omega arith) (omega (arith, ends.long)) in
     says_whole bs w (omega (arith, ends.long)) s
     ∙ ap (λ k. whole w (len - 8) (entries k bs (len - (8 * k + 8)))) number
-    ∙ ap (λ k. whole w (len - 8) (entries k bs p)) (sym l)
-    ∙ ap (whole w (len - 8)) (decode_all es bs p (put_tail n w.kind) ends.file (small t 0 [] (omega arith) fit.well_formed fit.narrow fit.few tt))
+    ∙ ap (whole w (len - 8)) (file_records bs w t fit ends)
     ∙ whole_back w (len - 8) t fit
 
 -- The other way.
@@ -326,61 +333,25 @@ read_is_written bs w t s e = go (ltb (length bs) 8) (sealed w.kind (length bs) (
         let m = ltb-false (length bs) 8 (sym p) in
         told_law bs w t (length bs) (two_bytes bs (length bs - 8 + 4)) refl refl s m (unseal w.kind (length bs) _ _ _ _ (sym q)) (sym (says_whole bs w m (sym q)) ∙ e)
 
--- The view of a file that ends with a tree shows that tree.
-shallow_at : (d : ℕ) (t : Tree) → (T (present t) → d + depth t ≤ 32) → depth t ≤ 32
+pub shallow_at : (d : ℕ) (t : Tree) → (T (present t) → d + depth t ≤ 32) → depth t ≤ 32
 shallow_at d missing h = omega arith
 shallow_at d mark h = omega arith
 shallow_at d (node f) h = omega (arith, h tt)
 
-pub shown : (bs : List ℕ) (w : Wanted) (t : Tree) → Fits w t → EndsWith bs t w.kind → Shows bs (view_of bs t) t
-shown bs w t fit ends =
-    let len = length bs in
-    let n = nodes t in
-    let es = tell t 0 [] in
-    let l : length es ≡ n = length_tell t 0 [] ∙ omega arith in
-    let p = len - (8 * n + 8) in
-    record {
-      well_formed = fit.well_formed;
-      shallow = shallow_at w.depth t fit.shallow;
-      few = fit.few;
-      narrow = fit.narrow;
-      count = refl;
-      within = omega (arith, ends.long);
-      records = ap (λ k. entries k bs p) (sym l) ∙ decode_all es bs p (put_tail n w.kind) ends.file (small t 0 [] (omega arith) fit.well_formed fit.narrow fit.few tt);
-    }
-
--- What an answer of the reading tells of the bytes.
-pub complete : (bs : List ℕ) (w : Wanted) (r : Result View Refusal) → r ≡ viewed bs (says bs w) → (t : Tree) → Fits w t → EndsWith bs t w.kind → r ≡ Ok (view_of bs t)
-complete bs w r e t f n = e ∙ ap (viewed bs) (written_is_read bs w t f n)
-
--- A file that is accepted, and its tree.
-pub record Found (bs : List ℕ) (w : Wanted) (v : View) : Type 0 where
-  pub tree : Tree
-  pub is : says bs w ≡ Ok tree
-  pub fits : Fits w tree
-  pub ends : EndsWith bs tree w.kind
-  pub view_is : v ≡ view_of bs tree
-  pub shows : Shows bs v tree
-
-pub found : (bs : List ℕ) (w : Wanted) (v : View) → Bytes bs → Ok v ≡ viewed bs (says bs w) → Found bs w v
-found bs w v s e = go (says bs w) refl
+-- A trailer that is right has its records before it.
+pub located_within : (bs : List ℕ) (w : Wanted) (n : ℕ) → located bs w ≡ Ok n → 8 * n + 8 ≤ length bs
+located_within bs w n h = go (ltb len 8) (sealed w.kind len t) refl h
   where
-    go : (x : Result Tree Refusal) → x ≡ says bs w → Found bs w v
-    go (Ok t) q =
-        let p = read_is_written bs w t s (sym q) in
-        let z : viewed bs (says bs w) ≡ Ok (view_of bs t) = ap (viewed bs) (sym q) in
-        let i : v ≡ view_of bs t = cc in
-        record { tree = t; is = sym q; fits = p.0; ends = p.1; view_is = i; shows = subst (λ x. Shows bs x t) (sym i) (shown bs w t p.0 p.1) }
-    go (Err x) q =
-        let z : viewed bs (says bs w) ≡ Err x = ap (viewed bs) (sym q) in
-        let n : ◌≡◌ {A = ℕ} 0 1 = cc in
-        absurd (omega arith)
+    len : ℕ
+    len = length bs
 
-pub faithful : (bs : List ℕ) (w : Wanted) (r : Result View Refusal) → Bytes bs → r ≡ viewed bs (says bs w) → (v : View) → r ≡ Ok v
-    → (t : Tree) × Fits w t × EndsWith bs t w.kind × (v ≡ view_of bs t)
-faithful bs w r s e v h = let f = found bs w v s (sym h ∙ e) in (f.tree, f.fits, f.ends, f.view_is)
+    t : Tail
+    t = tail_at bs (len - 8)
 
--- A file that is refused stays so, whatever would be asked of its tree next.
-pub still_refused : (bs : List ℕ) (x : Result Tree Refusal) (f : Tree → Result Tree Refusal) (e : Refusal) → Err e ≡ viewed bs x → Err e ≡ viewed bs (then x f)
-still_refused bs (Ok t) f e h = let z : ◌≡◌ {A = ℕ} 0 1 = cc in absurd (omega arith)
-still_refused bs (Err d) f e h = h
+    go : (a b : Bool) → b ≡ sealed w.kind len t → cond a (Err (no w Short len)) (cond b (Ok t.number) (Err (no w Trailer (len - 8)))) ≡ Ok n → 8 * n + 8 ≤ len
+    go true b q h = let z : ◌≡◌ {A = ℕ} 0 1 = cc in absurd (omega arith)
+    go false false q h = let z : ◌≡◌ {A = ℕ} 0 1 = cc in absurd (omega arith)
+    go false true q h =
+        let i : t.number ≡ n = cc in
+        let u = unseal w.kind len t.version t.kind t.number t.distance (sym q) in
+        omega (arith, u.within, u.distance)

@@ -1,16 +1,16 @@
 -- What is read is what was written.
-use Rattle.std.proofs.Common.{◌≡◌, ℕ, zero, suc, ◌+◌, ◌-◌, ◌*◌, ◌≤◌, Bool, true, false, cond, ◌&&◌, ◌||◌, eqb, List, [], ◌∷◌, length, Ok, Err, Result, sym, refl, ap, ◌∙◌, subst, arith}
+use Rattle.std.proofs.Common.{◌≡◌, ℕ, zero, suc, ◌+◌, ◌-◌, ◌≤◌, Bool, true, false, cond, ◌&&◌, ◌||◌, eqb, List, [], ◌∷◌, length, Ok, Err, Result, sym, refl, ap, ◌∙◌, subst, arith}
 use Rattle.std.proofs.lemmas.Bool.{eqb-true, le-ltb}
 use Rattle.records.specs.declared.Entry.{Entry}
 use Rattle.records.specs.declared.TreeKind.{TreeKind}
 use Rattle.records.specs.declared.Wanted.{Wanted}
-use Rattle.records.specs.declared.View.{View}
+use Rattle.records.specs.declared.Elder.{Elder}
+use Rattle.records.specs.declared.Elder.TheVariants.{Root, First, After}
 use Rattle.refusals.specs.declared.Refusal.{Refusal}
 use Rattle.refusals.specs.declared.Reason.TheVariants.{Short, Trailer, Count}
 use Rattle.model.specs.Trees.{Tree, missing, mark, node, Forest, empty, child, names, nodes, nodes_all}
-use Rattle.records.specs.Bytes.{two_bytes, entry, entries}
-use Rattle.records.specs.Reading.{no, then, Elder, root, first, after, named, may_mark, may_miss, plain, right, planted, Grown, grown, read, closed, whole, passed, viewed, says, sealed, tail_at, records_of}
-use Rattle.records.proofs.Walks.{length_entries}
+use Rattle.records.specs.Bytes.{entry}
+use Rattle.records.specs.Reading.{no, then, named, may_mark, may_miss, plain, right, planted, Grown, grown, read, closed, whole, says, sealed, tail_at, records_of}
 use Rattle.records.specs.Writing.{tell, tells}
 
 -- What holds of a result, if present is one.
@@ -32,12 +32,12 @@ abbrev mutual
   pub Grows : TreeKind → ℕ → Tree → Type 0
   Grows w room missing = ⊥
   Grows w room mark = may_mark w ≡ true
-  Grows w room (node f) = Rises w room first f
+  Grows w room (node f) = Rises w room First f
 
   pub Rises : TreeKind → ℕ → Elder → Forest → Type 0
   Rises w room el empty = Unit {0}
   Rises w zero el (child n t f) = ⊥
-  Rises w (suc room) el (child n t f) = (named el n ≡ true) × Grows w room t × Rises w (suc room) (after n) f
+  Rises w (suc room) el (child n t f) = (named el n ≡ true) × Grows w room t × Rises w (suc room) (After n) f
 
 -- What was taken from the records.
 pub record Took (w : TreeKind) (room k : ℕ) (el : Elder) (es : List Entry) (g : Grown) : Type 0 where
@@ -62,7 +62,7 @@ pub record Planted (w : TreeKind) (room : ℕ) (e : Entry) (es : List Entry) (f 
   pub told : e ∷ es ≡ tell (planted e f) e.name rest
   pub good : Grows w room (planted e f)
 
-plant : (w : TreeKind) (room : ℕ) (e : Entry) (es : List Entry) (f : Forest) (rest : List Entry) → plain w e ≡ true → es ≡ tells f rest → length (names f) ≡ e.children → Rises w room first f
+plant : (w : TreeKind) (room : ℕ) (e : Entry) (es : List Entry) (f : Forest) (rest : List Entry) → plain w e ≡ true → es ≡ tells f rest → length (names f) ≡ e.children → Rises w room First f
     → Planted w room e es f rest
 plant w room e es f rest h t m r =
     let z : e.last ≡ 0 = eqb-true _ _ (and_left (eqb e.last 0) _ h) in
@@ -99,8 +99,8 @@ taken w end room (suc k) el [] = tt
 taken w end zero (suc k) el (e ∷ es) = tt
 taken w end (suc room) (suc k) el (e ∷ es) =
     cond_holds (right w.kind el e) _ _ (Took w.kind (suc room) (suc k) el (e ∷ es))
-    (λ r. then_holds (read w end room e.children first es) _ (Took w.kind room e.children first es) _ (taken w end room e.children first es)
-    (λ g a. then_holds (read w end (suc room) k (after e.name) g.rest) _ (Took w.kind (suc room) k (after e.name) g.rest) _ (taken w end (suc room) k (after e.name) g.rest)
+    (λ r. then_holds (read w end room e.children First es) _ (Took w.kind room e.children First es) _ (taken w end room e.children First es)
+    (λ g a. then_holds (read w end (suc room) k (After e.name) g.rest) _ (Took w.kind (suc room) k (After e.name) g.rest) _ (taken w end (suc room) k (After e.name) g.rest)
     (λ h b. let p = plant w.kind room e es g.row g.rest (and_left (plain w.kind e) _ r) a.told a.many a.good in
     record {
       told = p.told ∙ ap (tell (planted e g.row) e.name) b.told;
@@ -112,27 +112,27 @@ taken w end (suc room) (suc k) el (e ∷ es) =
 -- A tree that is missing, or can stand in a file from its root on.
 abbrev pub Sits : TreeKind → ℕ → Tree → Type 0
 Sits w room missing = Unit {0}
-Sits w room mark = Rises w room root (child 0 mark empty)
-Sits w room (node f) = Rises w room root (child 0 (node f) empty)
+Sits w room mark = Rises w room Root (child 0 mark empty)
+Sits w room (node f) = Rises w room Root (child 0 (node f) empty)
 
 pub record Told (w : TreeKind) (d : ℕ) (es : List Entry) (t : Tree) : Type 0 where
   pub told : es ≡ tell t 0 []
   pub good : Sits w (33 - d) t
 
-rises_0 : (w : TreeKind) (room n : ℕ) (t : Tree) (f : Forest) → Rises w room root (child n t f) → n ≡ 0
+rises_0 : (w : TreeKind) (room n : ℕ) (t : Tree) (f : Forest) → Rises w room Root (child n t f) → n ≡ 0
 rises_0 w zero n t f r = absurd r
 rises_0 w (suc room) n t f r = eqb-true n 0 r.0
 
-sits : (w : TreeKind) (room n : ℕ) (t : Tree) (f : Forest) → Rises w room root (child n t f) → Sits w room t
+sits : (w : TreeKind) (room n : ℕ) (t : Tree) (f : Forest) → Rises w room Root (child n t f) → Sits w room t
 sits w zero n t f r = absurd r
 sits w (suc room) n missing f r = absurd r.1
 sits w (suc room) n mark f r = (refl, r.1, tt)
 sits w (suc room) n (node g) f r = (refl, r.1, tt)
 
-close_holds : (w : Wanted) (d end : ℕ) (es : List Entry) (g : Grown) → Took w.kind (33 - d) 1 root es g → Holds (closed w end g) (Told w.kind d es)
+close_holds : (w : Wanted) (d end : ℕ) (es : List Entry) (g : Grown) → Took w.kind (33 - d) 1 Root es g → Holds (closed w end g) (Told w.kind d es)
 close_holds w d end es g a = go g.row g.rest a.told a.many a.good
   where
-    go : (f : Forest) (rest : List Entry) → es ≡ tells f rest → length (names f) ≡ 1 → Rises w.kind (33 - d) root f → Holds (closed w end (grown f rest)) (Told w.kind d es)
+    go : (f : Forest) (rest : List Entry) → es ≡ tells f rest → length (names f) ≡ 1 → Rises w.kind (33 - d) Root f → Holds (closed w end (grown f rest)) (Told w.kind d es)
     go f (e ∷ rest) t m r = tt
     go empty [] t m r = absurd (omega arith)
     go (child n u f) [] t m r =
@@ -147,7 +147,7 @@ missed w false end = tt
 pub whole_told : (w : Wanted) (end : ℕ) (es : List Entry) → Holds (whole w end es) (Told w.kind w.depth es)
 whole_told w end [] = missed w (may_miss w.whose) end
 whole_told w end (e ∷ es) =
-    then_holds (read w end (33 - w.depth) 1 root (e ∷ es)) (closed w end) (Took w.kind (33 - w.depth) 1 root (e ∷ es)) (Told w.kind w.depth (e ∷ es)) (taken w end (33 - w.depth) 1 root (e ∷ es))
+    then_holds (read w end (33 - w.depth) 1 Root (e ∷ es)) (closed w end) (Took w.kind (33 - w.depth) 1 Root (e ∷ es)) (Told w.kind w.depth (e ∷ es)) (taken w end (33 - w.depth) 1 Root (e ∷ es))
     (λ g a. close_holds w w.depth end (e ∷ es) g a)
 
 mutual
@@ -160,15 +160,6 @@ mutual
   length_tells empty rest = omega arith
   length_tells (child n t f) rest = omega (arith, length_tell t n (tells f rest), length_tells f rest)
 
--- The tree that is read has as many nodes as there are records.
-counts : (bs : List ℕ) (w : Wanted) (v : View) (es : List Entry) (r : Result Tree Refusal) → length es ≡ v.count → v.start ≡ length bs - (8 * v.count + 8)
-    → Holds r (Told w.kind w.depth es) → passed v r ≡ viewed bs r
-counts bs w v es (Ok t) l q h =
-    let c : v.count ≡ nodes t = sym l ∙ ap length h.told ∙ length_tell t 0 [] ∙ omega arith in
-    let s : v.start ≡ length bs - (8 * nodes t + 8) = q ∙ ap (λ k. length bs - (8 * k + 8)) c in
-    ap Ok (λ i. record { start = s i; count = c i })
-counts bs w v es (Err e) l q h = refl
-
 pub says_whole : (bs : List ℕ) (w : Wanted) → 8 ≤ length bs → sealed w.kind (length bs) (tail_at bs (length bs - 8)) ≡ true
     → says bs w ≡ whole w (length bs - 8) (records_of bs (length bs) (tail_at bs (length bs - 8)))
 says_whole bs w l s =
@@ -176,15 +167,3 @@ says_whole bs w l s =
     let t = tail_at bs (len - 8) in
     ap (λ b. cond b (Err (no w Short len)) (cond (sealed w.kind len t) (whole w (len - 8) (records_of bs len t)) (Err (no w Trailer (len - 8))))) (le-ltb len 8 l)
     ∙ ap (λ b. cond b (whole w (len - 8) (records_of bs len t)) (Err (no w Trailer (len - 8)))) s
-
--- The walk over the records gives the reading.
-pub checked : (bs : List ℕ) (w : Wanted) (v : View) (r : Result View Refusal) → 8 ≤ length bs → sealed w.kind (length bs) (tail_at bs (length bs - 8)) ≡ true
-    → v.count ≡ two_bytes bs (length bs - 8 + 4) → v.start ≡ length bs - (8 * v.count + 8)
-    → r ≡ passed v (whole w (length bs - 8) (entries v.count bs v.start))
-    → r ≡ viewed bs (says bs w)
-checked bs w v r l s c q h =
-    let es = entries v.count bs v.start in
-    h ∙ counts bs w v es (whole w (length bs - 8) es) (length_entries v.count bs v.start) q (whole_told w (length bs - 8) es)
-    ∙ ap (λ k. viewed bs (whole w (length bs - 8) (entries v.count bs k))) q
-    ∙ ap (λ k. viewed bs (whole w (length bs - 8) (entries k bs (length bs - (8 * k + 8))))) c
-    ∙ ap (viewed bs) (sym (says_whole bs w l s))

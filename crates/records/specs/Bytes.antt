@@ -39,6 +39,14 @@ abbrev pub entries : ℕ → List ℕ → ℕ → List Entry
 entries zero bs at = []
 entries (suc n) bs at = entry_at bs at ∷ entries n bs (at + 8)
 
+-- Eight bytes as a record, and lists of eight bytes as records.
+abbrev pub entry_of : List ℕ → Entry
+entry_of bs = entry_at bs 0
+
+abbrev pub entries_of : List (List ℕ) → List Entry
+entries_of [] = []
+entries_of (r ∷ rs) = entry_of r ∷ entries_of rs
+
 -- A number in two bytes or four, and then other bytes.
 abbrev pub put_two : ℕ → List ℕ → List ℕ
 put_two n rest = n / 256 % 256 ∷ n % 256 ∷ rest

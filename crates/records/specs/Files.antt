@@ -1,13 +1,11 @@
 -- Which bytes are the file of a tree, said without reading them.
-use Rattle.std.specs.Prelude.{◌≡◌, ℕ, ◌+◌, ◌-◌, ◌*◌, ◌<◌, ◌≤◌, true, ◌||◌, T, List, [], length, drop, Ok, slice_index}
+use Rattle.std.specs.Prelude.{◌≡◌, ℕ, ◌+◌, ◌-◌, ◌*◌, ◌<◌, ◌≤◌, true, ◌||◌, T, List, length, drop, Ok, slice_index}
 use Rattle.model.specs.Trees.{Tree, WellFormed, Named, is_name, present, nodes, depth, marks}
 use Rattle.records.specs.Reading.{says, may_miss, most_deep, most_nodes}
-use Rattle.records.specs.Bytes.{entries}
-use Rattle.records.specs.Writing.{tell, written}
+use Rattle.records.specs.Writing.{written}
 use Rattle.records.specs.declared.TreeKind.{TreeKind}
 use Rattle.records.specs.declared.TreeKind.TheVariants.{Copy}
 use Rattle.records.specs.declared.Wanted.{Wanted}
-use Rattle.records.specs.declared.View.{View}
 
 -- A tree that may be wanted: within the limits, and without marks if it is a copy.
 pub record Fits (w : Wanted) (t : Tree) : Type 0 where
@@ -22,16 +20,6 @@ pub record Fits (w : Wanted) (t : Tree) : Type 0 where
 pub record EndsWith (bs : List ℕ) (t : Tree) (k : TreeKind) : Type 0 where
   pub long : 8 * nodes t + 8 ≤ length bs
   pub file : drop (length bs - (8 * nodes t + 8)) bs ≡ written t k
-
--- A view of the records of a tree, within the limits.
-pub record Shows (bs : List ℕ) (v : View) (t : Tree) : Type 0 where
-  pub well_formed : WellFormed t
-  pub shallow : depth t ≤ most_deep
-  pub few : nodes t ≤ most_nodes
-  pub narrow : Named is_name t
-  pub count : v.count ≡ nodes t
-  pub within : v.start + 8 * v.count ≤ length bs
-  pub records : entries v.count bs v.start ≡ tell t 0 []
 
 abbrev pub Bytes : List ℕ → Type 0
 Bytes bs = (i : ℕ) → slice_index bs i < 256

@@ -1,6 +1,6 @@
 -- What a record file says: a tree, or the first refusal.
 use Rattle.std.specs.Prelude.{ℕ, zero, suc, ◌+◌, ◌-◌, ◌*◌, Bool, true, false, cond, ◌&&◌, ◌||◌, List, [], ◌∷◌, length, Ok, Err, Result, ◌==◌, nat_le, nat_lt, slice_index}
-use Rattle.model.specs.Trees.{Tree, missing, mark, node, Forest, empty, child, nodes}
+use Rattle.model.specs.Trees.{Tree, missing, mark, node, Forest, empty, child}
 use Rattle.refusals.specs.declared.Reason.{Reason}
 use Rattle.refusals.specs.declared.Reason.TheVariants.{Short, Trailer, Record, Count, Depth}
 use Rattle.refusals.specs.declared.Whose.{Whose}
@@ -13,7 +13,8 @@ use Rattle.records.specs.declared.NodeKind.TheVariants as node_kind
 use Rattle.records.specs.declared.TreeKind.{TreeKind}
 use Rattle.records.specs.declared.TreeKind.TheVariants as tree_kind
 use Rattle.records.specs.declared.Wanted.{Wanted}
-use Rattle.records.specs.declared.View.{View}
+use Rattle.records.specs.declared.Elder.{Elder}
+use Rattle.records.specs.declared.Elder.TheVariants.{Root, First, After}
 
 -- The deepest level of a node, and the most nodes of a tree.
 abbrev pub most_deep : ℕ
@@ -21,6 +22,13 @@ most_deep = 32
 
 abbrev pub most_nodes : ℕ
 most_nodes = 4096
+
+-- The trees that are wanted of the files of a panel.
+abbrev pub copy_of : Whose → ℕ → Wanted
+copy_of whose depth = record { kind = tree_kind.Copy; whose = whose; depth = depth }
+
+abbrev pub an_archive : Wanted
+an_archive = record { kind = tree_kind.Archive; whose = Archive; depth = 0 }
 
 -- A refusal told of the tree that is wanted.
 abbrev pub no : Wanted → Reason → ℕ → Refusal
@@ -31,17 +39,11 @@ abbrev pub then : {X Y E : Type 0} → Result X E → (X → Result Y E) → Res
 then (Ok x) g = g x
 then (Err e) g = Err e
 
--- Who stands before a record among its siblings.
-pub data Elder : Type 0 where
-  root : Elder
-  first : Elder
-  after : ℕ → Elder
-
 -- The root's name is 0, a first child has any name, and another child one above its elder sibling's.
 abbrev pub named : Elder → ℕ → Bool
-named root n = n == 0
-named first n = true
-named (after m) n = nat_lt m n
+named Root n = n == 0
+named First n = true
+named (After m) n = nat_lt m n
 
 abbrev pub may_mark : TreeKind → Bool
 may_mark tree_kind.Copy = false
@@ -79,10 +81,15 @@ read w end room (suc k) el [] = Err (no w Count (here end []))
 read w end zero (suc k) el (e ∷ es) = Err (no w Depth (here end (e ∷ es)))
 read w end (suc room) (suc k) el (e ∷ es) =
     cond (right w.kind el e)
-    (then (read w end room e.children first es) (λ g.
-    then (read w end (suc room) k (after e.name) g.rest) (λ h.
+    (then (read w end room e.children First es) (λ g.
+    then (read w end (suc room) k (After e.name) g.rest) (λ h.
     Ok (grown (child e.name (planted e g.row) h.row) h.rest))))
     (Err (no w Record (here end (e ∷ es))))
+
+-- A reading of siblings of which only the records behind them, or the refusal, are kept.
+abbrev pub rests : Result Grown Refusal → Result (List Entry) Refusal
+rests (Ok g) = Ok g.rest
+rests (Err e) = Err e
 
 abbrev pub sole : Forest → Tree
 sole empty = missing
@@ -103,7 +110,7 @@ may_miss Brought = false
 -- Nodes may stand on the levels from the depth of the root to the deepest.
 abbrev pub whole : Wanted → ℕ → List Entry → Result Tree Refusal
 whole w end [] = cond (may_miss w.whose) (Ok missing) (Err (no w Count end))
-whole w end (e ∷ es) = then (read w end (suc most_deep - w.depth) 1 root (e ∷ es)) (closed w end)
+whole w end (e ∷ es) = then (read w end (suc most_deep - w.depth) 1 Root (e ∷ es)) (closed w end)
 
 -- The last eight bytes: distance of the first record from the end, number of nodes, kind, version.
 pub record Tail : Type 0 where
@@ -115,6 +122,10 @@ pub record Tail : Type 0 where
 abbrev pub tail_at : List ℕ → ℕ → Tail
 tail_at bs at =
     record { distance = four_bytes bs at; number = two_bytes bs (at + 4); kind = slice_index bs (at + 6); version = slice_index bs (at + 7) }
+
+-- The trailer is laid out as a record is.
+abbrev pub tail_of : Entry → Tail
+tail_of e = record { distance = e.name; number = e.children; kind = e.kind; version = e.last }
 
 abbrev pub sealed : TreeKind → ℕ → Tail → Bool
 sealed k len t =
@@ -132,13 +143,12 @@ says bs w =
     cond (nat_lt len 8) (Err (no w Short len))
     (cond (sealed w.kind len t) (whole w (len - 8) (records_of bs len t)) (Err (no w Trailer (len - 8))))
 
--- Where the records of a tree begin in its file, and how many they are.
-abbrev pub view_of : List ℕ → Tree → View
-view_of bs t = record { start = length bs - (8 * nodes t + 8); count = nodes t }
-
-abbrev pub viewed : List ℕ → Result Tree Refusal → Result View Refusal
-viewed bs (Ok t) = Ok (view_of bs t)
-viewed bs (Err e) = Err e
+-- The number of records before a trailer that is right.
+abbrev pub located : List ℕ → Wanted → Result ℕ Refusal
+located bs w =
+    let len = length bs in
+    let t = tail_at bs (len - 8) in
+    cond (nat_lt len 8) (Err (no w Short len)) (cond (sealed w.kind len t) (Ok t.number) (Err (no w Trailer (len - 8))))
 
 -- A reading of which only the refusal, if any, is kept.
 abbrev pub passed : {X Y : Type 0} → Y → Result X Refusal → Result Y Refusal

@@ -1,26 +1,31 @@
 #![tactic(auto)]
 
-ghost use Rattle.std.specs.Prelude.{◌≡◌, ℕ, ◌+◌, ◌-◌, ◌*◌, ◌<◌, ◌≤◌, length, Ok};
-ghost use Rattle.model.specs.Trees.{Tree as TheTree};
-ghost use Rattle.records.specs.Bytes.{two_bytes, four_bytes, entry_at, entries, node_code, tree_code};
-ghost use Rattle.records.specs.Reading.{plain, whole, passed, tail_at, sealed, says, viewed, view_of, no};
+ghost use Rattle.std.specs.Prelude.{◌≡◌, ◌-◌, ◌*◌, ◌≤◌, length, Ok, Err, MatchResult, IsOkAnd, IsErrAnd, IfOk};
+ghost use Rattle.model.specs.Trees.{Tree as TheTree, nodes};
+ghost use Rattle.records.specs.Bytes.{entry_of, entries_of, node_code, tree_code};
+ghost use Rattle.records.specs.Reading.{named, right, read as reads, rests, whole, passed, sealed, tail_of, located, says, no, copy_of, an_archive};
+ghost use Rattle.records.specs.Views.{tree_of, last_records, trees_of, LiesIn};
 ghost use Rattle.records.specs.Worked.{WorkedFile};
 ghost use Rattle.records.specs.Files.{Fits, EndsWith, WrittenIsRead, ReadIsWritten};
 
 use refusals::{Reason, Refusal, Whose};
 
+mod view;
+
+pub use view::View;
+
 // What a record file holds: a copy, or an archive, in which marks may stand.
 #[derive(Clone, Copy, PartialEq, Eq, Debug)]
 pub enum TreeKind {
-    Copy,
-    Archive,
+    Copy = 1,
+    Archive = 2,
 }
 
 // What a node record stands for.
 #[derive(Clone, Copy, PartialEq, Eq, Debug)]
 pub enum NodeKind {
-    Tree,
-    Mark,
+    Tree = 0,
+    Mark = 1,
 }
 
 // The tree that is wanted of a record file: its kind, whose it is, and how deep its root will stand.
@@ -31,14 +36,7 @@ pub struct Wanted {
     pub depth: usize,
 }
 
-// A record file that was found right: where its records begin, and how many they are.
-#[derive(Clone, Copy, PartialEq, Eq, Debug)]
-pub struct View {
-    pub start: usize,
-    pub count: usize,
-}
-
-// A node record.
+// A node record. Its kind and its last byte are as they stand in a file, which may hold any bytes.
 #[derive(Clone, Copy)]
 pub struct Entry {
     pub name: u32,
@@ -47,15 +45,23 @@ pub struct Entry {
     pub last: u8,
 }
 
-// A node whose children are being read: how many are still to come, and the least name that the next may have.
+// Who stands before a record among its siblings.
 #[derive(Clone, Copy)]
-pub struct Open {
-    pub left: u32,
-    pub low: u64,
+enum Elder {
+    // none: it is the root
+    Root,
+    // none: it is a first child
+    First,
+    // a sibling of this name
+    After(u32),
 }
 
-// How many bytes a trailer has.
-const TRAILER: usize = 8;
+// A reading of the records before the trailer, which begins at `end`.
+#[derive(Clone, Copy)]
+struct Reading {
+    wanted: Wanted,
+    end: usize,
+}
 
 const MOST_NODES: usize = 4096;
 
@@ -69,10 +75,7 @@ impl TreeKind {
     pub fn code(self) -> u8
         ensures { result ≡ tree_code self }
     {
-        match self {
-            TreeKind::Copy => 1,
-            TreeKind::Archive => 2,
-        }
+        self as u8
     }
 }
 
@@ -81,14 +84,33 @@ impl NodeKind {
     pub fn code(self) -> u8
         ensures { result ≡ node_code self }
     {
-        match self {
-            NodeKind::Tree => 0,
-            NodeKind::Mark => 1,
-        }
+        self as u8
     }
 }
 
 impl Wanted {
+    // The copy whose root will stand at this depth.
+    pub fn copy(whose: Whose, depth: usize) -> Wanted
+        ensures { result ≡ copy_of whose depth }
+    {
+        Wanted {
+            kind: TreeKind::Copy,
+            whose,
+            depth,
+        }
+    }
+
+    // The archive.
+    pub fn archive() -> Wanted
+        ensures { result ≡ an_archive }
+    {
+        Wanted {
+            kind: TreeKind::Archive,
+            whose: Whose::Archive,
+            depth: 0,
+        }
+    }
+
     fn refuse(self, reason: Reason, place: usize) -> Refusal
         ensures { result ≡ no self reason place }
     {
@@ -96,153 +118,165 @@ impl Wanted {
     }
 }
 
-// The number in two bytes from `at` on.
-pub fn two(bytes: &[u8], at: usize) -> u32
-    requires { at + 2 ≤ length bytes.now }
-    ensures value { result ≡ two_bytes bytes.now at }
-    ensures small { result < 65536 }
-{
-    256 * bytes[at] as u32 + bytes[at + 1] as u32
-}
+impl From<[u8; 8]> for Entry {
+    ghost from_gives = { λ r e. e ≡ entry_of r };
 
-// The number in four bytes from `at` on.
-pub fn four(bytes: &[u8], at: usize) -> u32
-    requires { at + 4 ≤ length bytes.now }
-    ensures { result ≡ four_bytes bytes.now at }
-{
-    65536 * two(bytes, at) + two(bytes, at + 2)
-}
-
-// The record at `at`.
-pub fn record_at(bytes: &[u8], at: usize) -> Entry
-    requires { at + 8 ≤ length bytes.now }
-    ensures { result ≡ entry_at bytes.now at }
-{
-    let name = four(bytes, at);
-    let children = two(bytes, at + 4);
-    Entry {
-        name,
-        children,
-        kind: bytes[at + 6],
-        last: bytes[at + 7],
-    }
-}
-
-// Whether a record is right but for its name.
-fn is_plain(kind: TreeKind, e: Entry) -> bool
-    ensures { result ≡ plain kind e }
-{
-    if e.last != 0 {
-        return false;
-    }
-    let node = e.kind == NodeKind::Tree.code();
-    let bare_mark = e.kind == NodeKind::Mark.code() && e.children == 0;
-    match kind {
-        TreeKind::Copy => node,
-        TreeKind::Archive => node || bare_mark,
-    }
-}
-
-// Goes over the records of a view, of which there is at least one.
-fn walk(bytes: &[u8], view: View, wanted: Wanted) -> Result<View, Refusal>
-    requires fits { view.start + (8 * view.count + 8) ≡ length bytes.now }
-    requires some { 0 < view.count }
-    ensures { result ≡ passed view (whole wanted (length bytes.now - 8) (entries view.count bytes.now view.start)) }
-{
-    let end = bytes.len() - 8;
-    let depth = wanted.depth;
-    if depth > MOST_DEEP {
-        return Err(wanted.refuse(Reason::Depth, view.start));
-    }
-    if four(bytes, view.start) != 0 {
-        return Err(wanted.refuse(Reason::Record, view.start));
-    }
-    let mut stack = [Open { left: 0, low: 0 }; 34];
-    let mut sp: usize = 33;
-    stack[33] = Open { left: 1, low: 0 };
-    let mut at = view.start;
-    while sp < 34 {
-        let top = stack[sp];
-        if top.left == 0 {
-            sp += 1;
-        } else {
-            if at == end {
-                return Err(wanted.refuse(Reason::Count, end));
-            }
-            if sp == depth {
-                return Err(wanted.refuse(Reason::Depth, at));
-            }
-            let e = record_at(bytes, at);
-            if !is_plain(wanted.kind, e) || (e.name as u64) < top.low {
-                return Err(wanted.refuse(Reason::Record, at));
-            }
-            stack[sp] = Open {
-                left: top.left - 1,
-                low: e.name as u64 + 1,
-            };
-            sp -= 1;
-            stack[sp] = Open {
-                left: e.children,
-                low: 0,
-            };
-            at += 8;
+    fn from(bytes: [u8; 8]) -> Entry {
+        Entry {
+            name: u32::from_be_bytes([bytes[0], bytes[1], bytes[2], bytes[3]]),
+            children: u16::from_be_bytes([bytes[4], bytes[5]]) as u32,
+            kind: bytes[6],
+            last: bytes[7],
         }
     }
-    if at < end {
-        return Err(wanted.refuse(Reason::Count, at));
-    }
-    Ok(view)
 }
 
-// Whether the trailer is right, for a file of at least 8 bytes.
-fn is_sealed(bytes: &[u8], kind: TreeKind) -> bool
-    requires { 8 ≤ length bytes.now }
-    ensures { result ≡ sealed kind (length bytes.now) (tail_at bytes.now (length bytes.now - 8)) }
+impl Elder {
+    // Whether the next sibling may have a name.
+    fn allows(self, name: u32) -> bool
+        ensures { result ≡ named self name }
+    {
+        match self {
+            Elder::Root => name == 0,
+            Elder::First => true,
+            Elder::After(elder) => elder < name,
+        }
+    }
+}
+
+// Whether a record is right.
+fn is_right(kind: TreeKind, elder: Elder, e: Entry) -> bool
+    ensures { result ≡ right kind elder e }
 {
-    let len = bytes.len();
-    let end = len - 8;
-    let nodes = two(bytes, end + 4) as usize;
-    let distance = four(bytes, end) as usize;
-    bytes[end + 7] == VERSION
-        && bytes[end + 6] == kind.code()
+    let node = e.kind == NodeKind::Tree.code();
+    let mark = e.kind == NodeKind::Mark.code();
+    let bare_mark = mark && kind == TreeKind::Archive && e.children == 0;
+    e.last == 0 && (node || bare_mark) && elder.allows(e.name)
+}
+
+impl Reading {
+    // The refusal at the first of the records that are left, or at the trailer if none is.
+    fn refuse(&self, reason: Reason, rest: &[[u8; 8]]) -> Refusal
+        requires { 8 * length rest.now ≤ self.now.end }
+        ensures { result ≡ no self.now.wanted reason (self.now.end - 8 * length rest.now) }
+    {
+        self.wanted.refuse(reason, self.end - 8 * rest.len())
+    }
+
+    // Reads so many siblings, each with all below it, where nodes may stand on `room` levels. What is left then are the records behind them, or those
+    // from the one on at which the reading stops.
+    fn siblings(
+        &self,
+        rest: &mut &[[u8; 8]],
+        room: usize,
+        count: u32,
+        first: Elder,
+    ) -> Result<(), Reason>
+        ensures answer { MatchResult (rests (reads self.now.wanted self.now.end room count first (entries_of rest.old.now))) (λ es. (result ≡ Ok tt) × (entries_of rest.new.now ≡ es)) (λ e. IsErrAnd result (λ r. e ≡ no self.now.wanted r (self.now.end - 8 * length rest.new.now))) }
+        ensures shorter { length rest.new.now ≤ length rest.old.now }
+    {
+        let mut room = room;
+        let mut left = count;
+        let mut elder = first;
+        while left > 0 {
+            let Some((record, below)) = rest.split_first() else {
+                return Err(Reason::Count);
+            };
+            if room == 0 {
+                return Err(Reason::Depth);
+            }
+            let entry = Entry::from(*record);
+            if !is_right(self.wanted.kind, elder, entry) {
+                return Err(Reason::Record);
+            }
+            *rest = below;
+            left -= 1;
+            if left == 0 {
+                // no sibling is to come, so the loop goes on with what is below this one: a call for each level of a chain would be slower
+                room -= 1;
+                left = entry.children;
+                elder = Elder::First;
+            } else {
+                if entry.children > 0 {
+                    self.siblings(rest, room - 1, entry.children, Elder::First)?;
+                }
+                elder = Elder::After(entry.name);
+            }
+        }
+        Ok(())
+    }
+
+    // Reads all records as one tree.
+    fn whole(&self, records: &[[u8; 8]]) -> Result<(), Refusal>
+        requires { 8 * length records.now ≤ self.now.end }
+        ensures { result ≡ passed tt (whole self.now.wanted self.now.end (entries_of records.now)) }
+    {
+        if records.is_empty() {
+            return match self.wanted.whose {
+                Whose::Brought => Err(self.refuse(Reason::Count, records)),
+                _ => Ok(()),
+            };
+        }
+        let room = (MOST_DEEP + 1).saturating_sub(self.wanted.depth);
+        let mut rest = records;
+        if let Err(reason) = self.siblings(&mut rest, room, 1, Elder::Root) {
+            return Err(self.refuse(reason, rest));
+        }
+        if !rest.is_empty() {
+            return Err(self.refuse(Reason::Count, rest));
+        }
+        Ok(())
+    }
+}
+
+// Whether a trailer, which is laid out as a record is, is right for a file of so many bytes.
+fn is_sealed(kind: TreeKind, len: usize, trailer: Entry) -> bool
+    ensures { result ≡ sealed kind len (tail_of trailer) }
+{
+    let nodes = trailer.children as usize;
+    let distance = trailer.name as usize;
+    trailer.last == VERSION
+        && trailer.kind == kind.code()
         && nodes <= MOST_NODES
         && distance == 8 * nodes + 8
         && distance <= len
 }
 
-// Where the tree of a record file lies, or the first reason to refuse it.
-fn locate(bytes: &[u8], wanted: Wanted) -> Result<View, Refusal>
-    ensures { result ≡ viewed bytes.now (says bytes.now wanted) }
+// The node records of a file whose trailer is right.
+fn locate(bytes: &[u8], wanted: Wanted) -> Result<&[[u8; 8]], Refusal>
+    ensures { MatchResult (located bytes.now wanted) (λ n. IsOkAnd result (λ records. records.now ≡ last_records bytes.now n)) (λ e. result ≡ Err e) }
 {
-    let len = bytes.len();
-    if len < TRAILER {
-        return Err(wanted.refuse(Reason::Short, len));
-    }
-    let end = len - TRAILER;
-    if !is_sealed(bytes, wanted.kind) {
-        return Err(wanted.refuse(Reason::Trailer, end));
-    }
-    let count = two(bytes, end + 4) as usize;
-    let view = View {
-        start: end - 8 * count,
-        count,
+    let Some((front, trailer)) = bytes.split_last_chunk::<8>() else {
+        return Err(wanted.refuse(Reason::Short, bytes.len()));
     };
-    if count > 0 {
-        return walk(bytes, view, wanted);
+    let tail = Entry::from(*trailer);
+    if !is_sealed(wanted.kind, bytes.len(), tail) {
+        return Err(wanted.refuse(Reason::Trailer, front.len()));
     }
-    match wanted.whose {
-        Whose::Brought => Err(wanted.refuse(Reason::Count, end)),
-        _ => Ok(view),
-    }
+    let start = front.len() - 8 * tail.children as usize;
+    Ok(front[start..].as_chunks().0)
 }
 
 // Reads a record file of any content and length. It is accepted exactly if it ends with the written form of a tree that fits.
-pub fn read(bytes: &[u8], wanted: Wanted) -> Result<View, Refusal>
-    ensures answer { result ≡ viewed bytes.now (says bytes.now wanted) }
-    ensures complete { (t : TheTree) → Fits wanted t → EndsWith bytes.now t wanted.kind → result ≡ Ok (view_of bytes.now t) }
-    ensures faithful { (v : View) → result ≡ Ok v → (t : TheTree) × Fits wanted t × EndsWith bytes.now t wanted.kind × (v ≡ view_of bytes.now t) }
+pub fn read(bytes: &[u8], wanted: Wanted) -> Result<View<'_>, Refusal>
+    ensures answer { trees_of result ≡ says bytes.now wanted }
+    ensures place { IfOk result (λ v. LiesIn bytes.now v) }
+    ensures complete { (t : TheTree) → Fits wanted t → EndsWith bytes.now t wanted.kind → trees_of result ≡ Ok t }
+    ensures faithful { IfOk result (λ v. Fits wanted (tree_of v) × EndsWith bytes.now (tree_of v) wanted.kind) }
 {
-    locate(bytes, wanted)
+    let records = locate(bytes, wanted)?;
+    let end = bytes.len() - 8;
+    Reading { wanted, end }.whole(records)?;
+    Ok(View { records })
+}
+
+impl View<'_> {
+    // The number of records, and so of nodes.
+    pub fn count(self) -> usize
+        ensures { result ≡ nodes (tree_of self.entry) }
+    {
+        self.records.len()
+    }
 }
 
 // What is written is read back.

@@ -1,52 +1,55 @@
 #![tactic(auto)]
 
-ghost use Rattle.std.specs.Prelude.{◌≡◌};
+ghost use Rattle.std.specs.Prelude.{◌≡◌, Some};
 ghost use Rattle.refusals.specs.Numbers.{number_of, layer_of, layer_number, whose_number, refused};
+ghost use Rattle.refusals.specs.Line.{line};
+
+use std::fmt;
 
 // Why a call was refused.
 #[derive(Clone, Copy, PartialEq, Eq, Debug)]
 pub enum Reason {
     // fewer bytes than a trailer has
-    Short,
+    Short = 1,
     // a trailer that is wrong, or of another kind of tree
-    Trailer,
+    Trailer = 2,
     // a node record that is wrong in itself
-    Record,
+    Record = 3,
     // records left over or run out, or a missing tree where one is needed
-    Count,
+    Count = 4,
     // a node too deep
-    Depth,
+    Depth = 5,
     // more nodes than the service file can hold
-    Crowded,
+    Crowded = 6,
     // names that the rulebook does not allow
-    Disobeys,
+    Disobeys = 7,
     // a path too long, or one that leads nowhere
-    Path,
+    Path = 8,
     // an edit after which the parent's names are not allowed
-    Edit,
+    Edit = 9,
     // an outcome with more nodes than the service file can hold
-    Outcome,
+    Outcome = 10,
     // an output too short for what is to be written
-    Output,
+    Output = 11,
 }
 
 // The layer that refuses.
 #[derive(Clone, Copy, PartialEq, Eq, Debug)]
 pub enum Layer {
-    Records,
-    Rulebook,
-    Service,
+    Records = 1,
+    Rulebook = 2,
+    Service = 3,
 }
 
 // Whose tree a refusal is about.
 #[derive(Clone, Copy, PartialEq, Eq, Debug)]
 pub enum Whose {
-    Nobody,
-    Archive,
-    Field,
-    Bench,
+    Nobody = 0,
+    Archive = 1,
+    Field = 2,
+    Bench = 3,
     // the tree that a put brings
-    Brought,
+    Brought = 4,
 }
 
 // What a refused call answers.
@@ -61,36 +64,16 @@ impl Reason {
     pub fn number(self) -> u32
         ensures { result ≡ number_of self }
     {
-        match self {
-            Reason::Short => 1,
-            Reason::Trailer => 2,
-            Reason::Record => 3,
-            Reason::Count => 4,
-            Reason::Depth => 5,
-            Reason::Crowded => 6,
-            Reason::Disobeys => 7,
-            Reason::Path => 8,
-            Reason::Edit => 9,
-            Reason::Outcome => 10,
-            Reason::Output => 11,
-        }
+        self as u32
     }
 
     pub fn layer(self) -> Layer
         ensures { result ≡ layer_of self }
     {
         match self {
-            Reason::Short => Layer::Records,
-            Reason::Trailer => Layer::Records,
-            Reason::Record => Layer::Records,
-            Reason::Count => Layer::Records,
-            Reason::Depth => Layer::Records,
-            Reason::Crowded => Layer::Service,
-            Reason::Disobeys => Layer::Rulebook,
-            Reason::Path => Layer::Service,
-            Reason::Edit => Layer::Rulebook,
-            Reason::Outcome => Layer::Service,
-            Reason::Output => Layer::Service,
+            Reason::Disobeys | Reason::Edit => Layer::Rulebook,
+            Reason::Crowded | Reason::Path | Reason::Outcome | Reason::Output => Layer::Service,
+            _ => Layer::Records,
         }
     }
 
@@ -110,11 +93,7 @@ impl Layer {
     pub fn number(self) -> u32
         ensures { result ≡ layer_number self }
     {
-        match self {
-            Layer::Records => 1,
-            Layer::Rulebook => 2,
-            Layer::Service => 3,
-        }
+        self as u32
     }
 }
 
@@ -122,12 +101,22 @@ impl Whose {
     pub fn number(self) -> u32
         ensures { result ≡ whose_number self }
     {
-        match self {
-            Whose::Nobody => 0,
-            Whose::Archive => 1,
-            Whose::Field => 2,
-            Whose::Bench => 3,
-            Whose::Brought => 4,
-        }
+        self as u32
+    }
+}
+
+// The line that is told of a refusal, without a newline.
+impl fmt::Display for Refusal {
+    ghost output = { λ r. Some (line r) };
+
+    fn fmt<W: fmt::Write>(&self, f: &mut fmt::Formatter<W>) -> fmt::Result {
+        let number = self.reason.number();
+        let layer = self.reason.layer().number();
+        let whose = self.whose.number();
+        let place = self.place;
+        write!(
+            f,
+            "refused {number} layer {layer} whose {whose} place {place}"
+        )
     }
 }

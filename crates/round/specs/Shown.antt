@@ -3,17 +3,12 @@ use Rattle.std.specs.Prelude.{◌≡◌, ℕ, List, Some, Ok, Err, Result}
 use Rattle.model.specs.Trees.{Tree}
 use Rattle.refusals.specs.declared.Refusal.{Refusal}
 use Rattle.refusals.specs.declared.Whose.{Whose}
-use Rattle.refusals.specs.declared.Whose.TheVariants.{Archive}
 use Rattle.refusals.specs.Output.{told, left}
-use Rattle.records.specs.declared.Wanted.{Wanted}
-use Rattle.records.specs.declared.TreeKind.TheVariants as tree_kind
+pub use Rattle.records.specs.Reading.{an_archive}
 use Rattle.model.specs.Rulebooks.{plate_meaning}
 use Rattle.records.specs.Reading.{says, then}
 use Rattle.obeying.specs.Lawful.{lawful, copy_of}
 use Rattle.text.specs.Text.{text}
-
-abbrev pub an_archive : Wanted
-an_archive = record { kind = tree_kind.Archive; whose = Archive; depth = 0 }
 
 -- What the file of a copy says, held to plate.
 abbrev pub a_copy : Whose → List ℕ → Result Tree Refusal

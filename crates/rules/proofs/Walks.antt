@@ -1,58 +1,37 @@
--- One step of a walk over a list of names, and its end.
-use Rattle.std.proofs.Common.{◌≡◌, ℕ, ◌+◌, ◌-◌, ◌<◌, ◌≤◌, true, false, ◌&&◌, ltb, List, [], ◌∷◌, length, get_or, drop, refl, arith, length-drop}
-use Rattle.std.proofs.lemmas.List.{drop_more, drop_all}
-use Rattle.std.proofs.lemmas.Bool.{lt-ltb, le-ltb, le-leb, lt-leb}
+-- What a walk over a list of names tells.
+use Rattle.std.proofs.Common.{◌≡◌, ℕ, zero, suc, ◌+◌, ◌<◌, Bool, true, false, ◌&&◌, ltb, leb, List, [], ◌∷◌, length, get_or, refl, sym, ap, ◌∙◌, subst, arith}
+use Rattle.std.specs.List.{list_all, IsAllAdjacentAnswer, AllAdjacentBelow}
 use Rattle.model.specs.Rulebooks.{ascending, up_to}
 
--- The name before i is compared with the one at i.
-ascending_at :
-    (ks : List ℕ) (i : ℕ)
-    → 1 ≤ i
-    → i < length ks
-    → ascending (drop (i - 1) ks) ≡ (ltb (get_or ks (i - 1) 0) (get_or ks i 0) && ascending (drop i ks))
-ascending_at ks i l h =
-    let e : i - 1 + 1 ≡ i = omega arith in
-    let a = drop_more ks (i - 1) 0 (omega arith) in
-    let b = drop_more ks i 0 h in
-    rw (a, e, b)
+pub all_up_to : (n : ℕ) (ks : List ℕ) → list_all (λ k. leb k n) ks ≡ up_to n ks
+all_up_to n [] = refl
+all_up_to n (k ∷ ks) = ap (λ b. leb k n && b) (all_up_to n ks)
 
-pub ascending_on :
-    (ks : List ℕ) (i : ℕ)
-    → 1 ≤ i
-    → i < length ks
-    → get_or ks (i - 1) 0 < get_or ks i 0
-    → ascending (drop (i - 1) ks) ≡ ascending (drop (i + 1 - 1) ks)
-ascending_on ks i l h g =
-    let w = ascending_at ks i l h in
-    let t = lt-ltb (get_or ks (i - 1) 0) (get_or ks i 0) g in
-    let n : i + 1 - 1 ≡ i = omega arith in
-    cc
+next : (i : ℕ) → suc i + 1 ≡ suc (i + 1)
+next i = omega arith
 
-pub ascending_not :
-    (ks : List ℕ) (i : ℕ)
-    → 1 ≤ i
-    → i < length ks
-    → get_or ks i 0 ≤ get_or ks (i - 1) 0
-    → ascending (drop (i - 1) ks) ≡ false
-ascending_not ks i l h g =
-    let w = ascending_at ks i l h in
-    let t = le-ltb (get_or ks (i - 1) 0) (get_or ks i 0) g in
-    cc
+none : (b : Bool) → (b && false) ≡ false
+none true = refl
+none false = refl
 
-short_ascending : (ks : List ℕ) → length ks ≤ 1 → ascending ks ≡ true
-short_ascending [] h = refl
-short_ascending (k ∷ []) h = refl
-short_ascending (k ∷ n ∷ ns) h = absurd (omega arith)
+-- Each name is below the next.
+each : (ks : List ℕ) → AllAdjacentBelow (λ k n. true ≡ ltb k n) ks (length ks) → ascending ks ≡ true
+each [] h = refl
+each (k ∷ []) h = refl
+each (k ∷ n ∷ ns) h =
+    let here : true ≡ ltb k n = h 0 0 (omega arith) in
+    let there = each (n ∷ ns) (λ i d l. subst (λ j. true ≡ ltb (get_or (n ∷ ns) i d) (get_or (k ∷ n ∷ ns) j d)) (next i) (h (suc i) d (omega arith))) in
+    rw (sym here, there)
 
-pub ascending_end : (ks : List ℕ) (i : ℕ) → length ks ≤ i → ascending (drop (i - 1) ks) ≡ true
-ascending_end ks i h = short_ascending (drop (i - 1) ks) (simp length-drop (omega arith))
+-- A name is not below the next.
+not_each : (ks : List ℕ) (i : ℕ) → i + 1 < length ks → ((d : ℕ) → false ≡ ltb (get_or ks i d) (get_or ks (i + 1) d)) → ascending ks ≡ false
+not_each [] i l h = absurd (omega arith)
+not_each (k ∷ []) i l h = absurd (omega arith)
+not_each (k ∷ n ∷ ns) zero l h = let here : false ≡ ltb k n = h 0 in rw (sym here)
+not_each (k ∷ n ∷ ns) (suc i) l h =
+    let there = not_each (n ∷ ns) i (omega arith) (λ d. subst (λ j. false ≡ ltb (get_or (n ∷ ns) i d) (get_or (k ∷ n ∷ ns) j d)) (next i) (h d)) in
+    ap (λ b. ltb k n && b) there ∙ none (ltb k n)
 
-pub up_to_on :
-    (n : ℕ) (ks : List ℕ) (i : ℕ) → i < length ks → get_or ks i 0 ≤ n → up_to n (drop i ks) ≡ up_to n (drop (i + 1) ks)
-up_to_on n ks i h g = rw (drop_more ks i 0 h, le-leb (get_or ks i 0) n g)
-
-pub up_to_not : (n : ℕ) (ks : List ℕ) (i : ℕ) → i < length ks → n < get_or ks i 0 → up_to n (drop i ks) ≡ false
-up_to_not n ks i h g = rw (drop_more ks i 0 h, lt-leb (get_or ks i 0) n g)
-
-pub up_to_end : (n : ℕ) (ks : List ℕ) (i : ℕ) → length ks ≤ i → up_to n (drop i ks) ≡ true
-up_to_end n ks i h = rw (drop_all i ks h)
+pub ascending_told : (ks : List ℕ) (r : Bool) → IsAllAdjacentAnswer (λ k n b. b ≡ ltb k n) ks r → r ≡ ascending ks
+ascending_told ks true h = sym (each ks h)
+ascending_told ks false h = sym (not_each ks h.0 h.1 h.2)

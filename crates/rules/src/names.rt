@@ -9,31 +9,21 @@ const RUN: u32 = 4;
 pub fn ascends(names: &[u32]) -> bool
     ensures { result ≡ ascending names.now }
 {
-    for i in 1..names.len() {
-        if names[i] <= names[i - 1] {
-            return false;
-        }
-    }
-    true
+    names.is_sorted_by(|a, b| *a < *b)
 }
 
 // Whether no name is above the last one that there may be.
 pub fn no_name_above(names: &[u32], last: u32) -> bool
     ensures { result ≡ up_to last names.now }
 {
-    for name in names {
-        if *name > last {
-            return false;
-        }
-    }
-    true
+    names.iter().all(|name| *name <= last)
 }
 
 // Whether four names in a row are consecutive numbers.
 pub fn four_in_a_row(names: &[u32]) -> bool
     ensures { result ≡ four_consecutive names.now }
 {
-    // The length of the run that ends here, and the number that would go on with it, which may not fit a name.
+    // The length of the run that ends here, a count and not an index, and the number that would go on with it, which may not fit a name.
     let mut run: u32 = 0;
     let mut next: u64 = 0;
     for name in names {

@@ -25,7 +25,7 @@ impl Rulebook for Open {
     }
 
     fn class_under(&self, class: u32, _name: u32) -> Option<u32> {
-        if class == 0 { Some(0) } else { None }
+        (class == 0).then_some(0)
     }
 
     fn allowed(&self, class: u32, names: &[u32]) -> bool {

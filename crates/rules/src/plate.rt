@@ -6,6 +6,8 @@ ghost use Rattle.model.proofs.Rulebooks.{plate_bounded, plate_names, plate_trees
 use super::Rulebook;
 use super::names::{ascends, four_in_a_row, no_name_above};
 
+// Classes are numbers at the trait, since a rulebook may have any number of them, so that an enum would be made of them and back at each call.
+
 // The class of a panel.
 const PANEL: u32 = 0;
 
@@ -41,10 +43,7 @@ const LAST_LINE: u32 = 4095;
 pub fn panel_names(names: &[u32]) -> bool
     ensures { result ≡ panel_allowed names.now }
 {
-    match names {
-        [SERIAL, MAP] | [SERIAL, MAP, EXPOSURE] => true,
-        _ => false,
-    }
+    matches!(names, [SERIAL, MAP] | [SERIAL, MAP, EXPOSURE])
 }
 
 // Whether these can be the rows that have dead pixels.

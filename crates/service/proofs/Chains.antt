@@ -1,15 +1,13 @@
 -- Tests in a row, of which the first that fails is told.
-use Rattle.std.proofs.Common.{◌≡◌, ℕ, ◌<◌, ◌≤◌, Bool, true, cond, ltb, leb, List, length, Ok, Err, Result, sym, refl, ap, ◌∙◌, inl, inr, arith}
-use Rattle.std.proofs.lemmas.Bool.{cases_Bool, ltb-false, leb-true, leb-false, cond-true, cond-false}
-use Rattle.model.specs.Trees.{Tree, Path, nodes}
+use Rattle.std.proofs.Common.{◌≡◌, ℕ, ◌≤◌, Bool, true, cond, ltb, length, Ok, Err, Result, sym, refl, ap, ◌∙◌, inl, inr, arith}
+use Rattle.std.proofs.lemmas.Bool.{cases_Bool, ltb-false, cond-true, cond-false}
+use Rattle.model.specs.Trees.{Tree, Path}
 use Rattle.model.specs.Edits.{reached}
 use Rattle.refusals.specs.declared.Refusal.{Refusal}
 use Rattle.refusals.specs.declared.Reason.TheVariants as reason
 use Rattle.refusals.specs.declared.Whose.{Whose}
 use Rattle.refusals.specs.Numbers.{refused}
-use Rattle.records.specs.Reading.{then, passed, viewed}
-use Rattle.loading.specs.Loads.{within}
-use Rattle.service.specs.Edits.{counted}
+use Rattle.records.specs.Reading.{then, passed}
 use Rattle.ledger.specs.Answers.{leads}
 
 pub ok_first : {X Y E : Type 0} {x : Result X E} {v : X} (k : X → Result Y E) → x ≡ Ok v → then x k ≡ k v
@@ -53,38 +51,6 @@ two_fail (Err d) f k e = cc
 pub two_pass : {X Y Z E : Type 0} (x : Result X E) (f : X → Result Y E) (k : Y → Result Z E) {v : Y} → then x f ≡ Ok v → then x (λ w. then (f w) k) ≡ k v
 two_pass (Ok v) f k e = ok_first k e
 two_pass (Err d) f k e = not_both (sym e)
-
-pub viewed_err : (bs : List ℕ) (x : Result Tree Refusal) {d : Refusal} → Err d ≡ viewed bs x → x ≡ Err d
-viewed_err bs (Ok t) e = not_both (sym e)
-viewed_err bs (Err f) e = cc
-
--- A tree that is counted.
-module _ (l : ℕ) (w : Whose) (t : Tree) where
-  pub record Few : Type 0 where
-    pub is : within l w t ≡ Ok t
-    pub few : nodes t ≤ l
-
-  pub record Many (d : Refusal) : Type 0 where
-    pub is : within l w t ≡ Err d
-    pub many : l < nodes t
-
-  pub counted_few : {n : ℕ} → Ok n ≡ counted (within l w t) → Few
-  counted_few e =
-      elim (cases_Bool (leb (nodes t) l)) [
-        | inl y ↦ record { is = cond-true _ _ _ y; few = leb-true (nodes t) l y }
-        | inr m ↦ not_both (e ∙ ap counted (cond-false _ _ _ m))
-      ]
-
-  pub counted_many : {d : Refusal} → Err d ≡ counted (within l w t) → Many d
-  counted_many {d} e =
-      elim (cases_Bool (leb (nodes t) l)) [
-        | inl y ↦ not_both (sym (ap counted (cond-true _ _ _ y)) ∙ sym e)
-        | inr m ↦
-            let q : within l w t ≡ Err (refused reason.Crowded w (nodes t)) = cond-false _ _ _ m in
-            let r : ◌≡◌ {A = Result ℕ Refusal} (Err d) (Err (refused reason.Crowded w (nodes t))) = e ∙ ap counted q in
-            let k : d ≡ refused reason.Crowded w (nodes t) = cc in
-            record { is = q ∙ ap Err (sym k); many = leb-false (nodes t) l m }
-      ]
 
 -- A path that is not refused.
 pub record Led (t : Tree) (p : Path) (there : Bool) : Type 0 where

@@ -1,27 +1,24 @@
 -- Three trees that an area keeps.
-use Rattle.std.proofs.Common.{◌≡◌, ℕ, ◌≤◌, false, List, [], ◌∷◌, Ok, Err, Result, sym, refl, ap, ◌∙◌, subst, arith}
-use Rattle.model.specs.Trees.{Tree as TheTree, nodes, marks}
-use Rattle.model.specs.Round.{Outcome}
-use Rattle.refusals.specs.declared.Refusal.{Refusal}
+use Rattle.std.proofs.Common.{◌≡◌, ℕ, ◌≤◌, false, List, [], ◌∷◌, sym, refl, subst, arith}
+use Rattle.model.specs.Trees.{Tree as TheTree, missing, nodes, marks}
+use Rattle.model.specs.Round.{Outcome, outcome}
 use Rattle.stored.specs.Words.{Holds}
 use Rattle.area.specs.Views.{view, limit, among, Only}
 use Rattle.area.specs.declared.types.Area.{Area}
-use Rattle.area.specs.declared.regions.Table.{Table}
-use Rattle.area.specs.declared.regions.Table.TheVariants.{Archive, Field, Bench}
+use Rattle.tables.specs.declared.Table.{Table}
+use Rattle.tables.specs.declared.Table.TheVariants.{Archive, Field, Bench}
 use Rattle.area.specs.declared.regions.Region.{Region}
 use Rattle.area.specs.declared.regions.Region.TheVariants.{Tree}
-use Rattle.merging.specs.declared.types.Sizes.{Sizes}
+use Rattle.merging.specs.Tables.{Sizes}
+use Rattle.tables.specs.Pick.{pick as size_in}
 use Rattle.editing.proofs.Carried.{carried_holds}
 use Rattle.ledger.specs.declared.Side.{Side}
 use Rattle.ledger.specs.declared.Side.TheVariants as side
-use Rattle.ledger.specs.Answers.{copy, with_copy, left}
-use Rattle.service.specs.Keeping.{Kept, sizes_of, sized}
-use Rattle.service.specs.Edits.{table_of, size_of, with_size, Answered}
+use Rattle.ledger.specs.Answers.{table_of, copy, with_copy}
+use Rattle.service.specs.Keeping.{Kept}
+use Rattle.service.specs.Service.{pick}
 
 module _ {a : Area} {place : Table → Region} {n : Sizes} {s : Outcome} (h : Kept a place n s) where
-  pub sizes_are : n ≡ sizes_of s
-  sizes_are = λ i. record { archive = h.archive.count i; field = h.field.count i; bench = h.bench.count i }
-
   -- The area still keeps them after any change to other regions.
   pub still_kept : {rs : List Region} {b : Area} → Only rs a b → ((t : Table) → among (place t) rs ≡ false) → Kept b place n s
   still_kept only d =
@@ -36,10 +33,29 @@ module _ {a : Area} {place : Table → Region} {n : Sizes} {s : Outcome} (h : Ke
         bench_unmarked = h.bench_unmarked;
       }
 
+  -- The tree of one table.
+  pub tree_held : (t : Table) → Holds (view a (place t)) (size_in t n) (pick t s)
+  tree_held Archive = h.archive
+  tree_held Field = h.field
+  tree_held Bench = h.bench
+
+  -- In words and with a count that are known by other names.
+  pub tree_shown : (t : Table) (ws : List ℕ) → ws ≡ view a (place t) → (k : ℕ) → k ≡ size_in t n → Holds ws k (pick t s)
+  tree_shown t ws e k f = subst (λ j. Holds ws j (pick t s)) (sym f) (carried_holds e (tree_held t))
+
+-- The numbers of nodes, with another for one side.
+abbrev pub with_size : Side → ℕ → Sizes → Sizes
+with_size side.Field k n = record n { field = k }
+with_size side.Bench k n = record n { bench = k }
+
+picked : (e : Side) (s : Outcome) → pick (table_of e) s ≡ copy e s
+picked side.Field s = refl
+picked side.Bench s = refl
+
 module _ {a : Area} {n : Sizes} {s : Outcome} (h : Kept a Tree n s) where
-  pub copy_held : (e : Side) → Holds (view a (Tree (table_of e))) (size_of e n) (copy e s)
-  copy_held side.Field = h.field
-  copy_held side.Bench = h.bench
+  -- The copy of a side.
+  pub copy_held : (e : Side) → Holds (view a (Tree (table_of e))) (size_in (table_of e) n) (copy e s)
+  copy_held e = subst (Holds (view a (Tree (table_of e))) (size_in (table_of e) n)) (picked e s) (tree_held h (table_of e))
 
   pub copy_unmarked : (e : Side) → marks (copy e s) ≡ 0
   copy_unmarked side.Field = h.field_unmarked
@@ -76,22 +92,19 @@ module _ {a : Area} {n : Sizes} {s : Outcome} (h : Kept a Tree n s) where
         bench_unmarked = unmarked;
       }
 
-  -- A refused call leaves them.
-  pub refused_call : {rs : List Region} {b : Area} {answer : Result Outcome Refusal} {told : Result Sizes Refusal} (d : Refusal)
-      → Only rs a b → ((t : Table) → among (Tree t) rs ≡ false) → answer ≡ Err d → told ≡ Err d → Answered a b s answer told
-  refused_call {b = b} d only apart e f =
-      record {
-        told_is = f ∙ sym (ap sized e);
-        kept = subst (λ x. Kept b Tree (sizes_of (left s x)) (left s x)) (sym e) (subst (λ k. Kept b Tree k s) (sizes_are h) (still_kept h only apart));
-        same_limit = only.same_limit;
-      }
-
--- A call that is done.
-pub done_call : {a b : Area} {n : Sizes} {s t : Outcome} {answer : Result Outcome Refusal} {told : Result Sizes Refusal}
-    → answer ≡ Ok t → told ≡ Ok n → Kept b Tree n t → limit b ≡ limit a → Answered a b s answer told
-done_call {b = b} {s = s} {t = t} e f kept l =
+-- Any words hold three missing trees.
+pub nothing_kept : (a : Area) → Kept a Tree (record { archive = 0; field = 0; bench = 0 }) (outcome missing missing missing)
+nothing_kept a =
     record {
-      told_is = f ∙ ap Ok (sizes_are kept) ∙ sym (ap sized e);
-      kept = subst (λ x. Kept b Tree (sizes_of (left s x)) (left s x)) (sym e) (subst (λ k. Kept b Tree k t) (sizes_are kept) kept);
-      same_limit = l;
+      archive = none (view a (Tree Archive));
+      field = none (view a (Tree Field));
+      bench = none (view a (Tree Bench));
+      archive_few = omega arith;
+      field_few = omega arith;
+      bench_few = omega arith;
+      field_unmarked = refl;
+      bench_unmarked = refl;
     }
+  where
+    none : (ws : List ℕ) → Holds ws 0 missing
+    none ws = record { begins = record { rest = ws; well_formed = tt; words = refl }; count = refl; few = omega arith; shallow = omega arith }

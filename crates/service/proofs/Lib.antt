@@ -2,9 +2,9 @@ pub mod Ways
 pub mod Chains
 pub mod Kept
 pub mod Renewing
-pub mod Decoding
 pub mod Once
+pub mod Files
+pub mod Loaded
 pub mod Answering
 pub mod Outcomes
-pub mod Methods
 pub mod ReadBack

@@ -17,22 +17,26 @@ use Rattle.refusals.specs.Numbers.{refused}
 use Rattle.records.specs.Reading.{then, passed}
 use Rattle.obeying.specs.Lawful.{faulty, lawful}
 use Rattle.stored.specs.Words.{Holds}
-use Rattle.area.specs.Views.{view, limit, Only}
+use Rattle.area.specs.Views.{view, limit as limit_in, Only}
 use Rattle.area.specs.declared.types.Area.{Area}
-use Rattle.area.specs.declared.regions.Table.{Table}
-use Rattle.area.specs.declared.regions.Table.TheVariants.{Archive, Field, Bench}
-use Rattle.area.specs.declared.regions.Region.TheVariants.{Tree, New, Stack, Names}
-use Rattle.area.proofs.Laws.{limit_small, also, wider}
+use Rattle.tables.specs.declared.Table.{Table}
+use Rattle.tables.specs.declared.Table.TheVariants.{Archive, Field, Bench}
+use Rattle.area.specs.declared.regions.Region.TheVariants.{Tree, New}
+use Rattle.area.proofs.Laws.{limit_small}
 use Rattle.editing.proofs.Carried.{carried_holds}
 use Rattle.editing.proofs.Grafts.{held_from}
-use Rattle.merging.specs.declared.types.Sizes.{Sizes}
-use Rattle.merging.specs.Tables.{pick, tree_of}
+use Rattle.merging.specs.Tables.{Sizes}
+use Rattle.merging.specs.Tables.{tree_of}
+use Rattle.tables.specs.Pick.{pick}
 use Rattle.merging.specs.Held.{Held, Merged}
 use Rattle.ledger.specs.Answers.{both_obey, fits, all_fit, draw_answer}
 use Rattle.ledger.proofs.Sound.{Sound}
-use Rattle.service.specs.Keeping.{Kept, sizes_of, sized}
+use Rattle.service.specs.declared.types.File.{File}
+use Rattle.service.specs.Keeping.{Kept, trees_in}
+use Rattle.service.specs.Service.{trees, limit, Same}
 use Rattle.service.proofs.Chains.{ok_first, err_first, passed_ok, passed_err, not_both}
-use Rattle.service.proofs.Kept.{sizes_are, still_kept}
+use Rattle.service.proofs.Once.{kept_trees, kept_itself}
+use Rattle.service.proofs.Files.{kept}
 
 -- A chain that ends well went well at first, and on from there.
 pub then_ok : {X Y E : Type 0} (x : Result X E) (k : X → Result Y E) {v : Y} → then x k ≡ Ok v → (u : X) × (x ≡ Ok u) × (k u ≡ Ok v)
@@ -107,108 +111,93 @@ made Archive w = w.archive_made
 made Field w = w.field_made
 made Bench w = w.bench_made
 
--- From the trees that the area a keeps, whose copies obey, a round came to an outcome of so many nodes, which the area b has beside them.
-pub record Drew (m : Meaning) (a : Area) (n : Sizes) (b : Area) (new : Sizes) : Type 0 where
-  pub obeyed : (s : Outcome) → Kept a Tree n s → Ok (tt {0}) ≡ passed (tt {0}) (both_obey m s)
-  pub merged : (s : Outcome) → Kept a Tree n s → Merged (came_out m s) b new
-  pub only : Only (New Archive ∷ New Field ∷ New Bench ∷ Stack ∷ Names ∷ []) a b
+-- What a round may rely on, from a file g with the trees of f, whose copies were found to obey.
+module _ (m : Meaning) (f g : File) (obeyed : Ok (tt {0}) ≡ passed (tt {0}) (both_obey m (trees f))) (same : Same f g) where
+  kept_on : Kept g.area Tree g.sizes (trees f)
+  kept_on = subst (Kept g.area Tree g.sizes) same.trees_stay (kept g)
 
-pub drew : {m : Meaning} {a between b : Area} {n new : Sizes}
-    → ((s : Outcome) → Kept a Tree n s → Ok (tt {0}) ≡ passed (tt {0}) (both_obey m s))
-    → Only (Names ∷ Stack ∷ []) a between
-    → ((o f t : TheTree) → Held between n o f t → Ready m (Some 0) o f t → Merged (round m o f t) b new)
-    → Only (New Archive ∷ New Field ∷ New Bench ∷ Stack ∷ Names ∷ []) between b
-    → Drew m a n b new
-drew {m} obeyed first merged second =
-    record {
-      obeyed = obeyed;
-      merged = λ s h. merged s.archive s.field s.bench (held (still_kept h first (λ t. refl))) (ready m h (obeyed s h));
-      only = also (wider first refl) second refl;
-    }
+  pub given : (o : TheTree) × (x : TheTree) × (y : TheTree) × Held g.area g.sizes o x y × Ready m (Some 0) o x y
+  given =
+      let s = trees f in
+      (s.archive, s.field, s.bench, held kept_on, ready m (kept f) obeyed)
 
--- The draw from these trees is refused.
-pub record Refuses (m : Meaning) (a : Area) (n : Sizes) (v : Refusal) : Type 0 where
-  pub answer_is : (s : Outcome) → Kept a Tree n s → draw_answer m (limit a) s ≡ Err v
+-- The round of those trees was written into the area b, whose limit is l.
+pub record Drew (m : Meaning) (f g : File) (b : Area) (new : Sizes) (l : ℕ) : Type 0 where
+  pub obeyed : Ok (tt {0}) ≡ passed (tt {0}) (both_obey m (trees f))
+  pub same : Same f g
+  pub merges : (o x y : TheTree) → Held g.area g.sizes o x y → Ready m (Some 0) o x y → Merged (round m o x y) b new
+  pub limit_is : l ≡ limit_in b
+  pub same_limit : limit_in b ≡ limit_in g.area
 
-module _ {m : Meaning} {a : Area} {n : Sizes} {v : Refusal} (r : Refuses m a n v) where
-  pub refusal_told : {told : Result Sizes Refusal} {w : Refusal} → told ≡ Err w → w ≡ v
-      → (s : Outcome) → Kept a Tree n s → told ≡ sized (draw_answer m (limit a) s)
-  refusal_told e f s h = e ∙ ap Err f ∙ sym (ap sized (r.answer_is s h))
+module _ {m : Meaning} {f g : File} {b : Area} {new : Sizes} {l : ℕ} (d : Drew m f g b new l) where
+  abbrev s : Outcome
+  s = trees f
 
-  pub nothing_came : {b : Area} (s o : Outcome) → Kept a Tree n s → draw_answer m (limit a) s ≡ Ok o → Kept b New (sizes_of o) o
-  nothing_came s o h e = not_both (sym e ∙ r.answer_is s h)
+  abbrev out : Outcome
+  out = came_out m s
 
-pub copies_refused : {m : Meaning} {a : Area} {n : Sizes} {v : Refusal}
-    → ((s : Outcome) → Kept a Tree n s → Err v ≡ passed (tt {0}) (both_obey m s)) → Refuses m a n v
-copies_refused {m} f = record { answer_is = λ s h. err_first _ (passed_err (both_obey m s) (f s h)) }
+  sound : Sound m s
+  sound = ready m (kept f) d.obeyed
 
--- What the tests of the trees of the outcome, where l is the limit, say of the draw.
-module _ {m : Meaning} {a b : Area} {n new : Sizes} (d : Drew m a n b new) (l : ℕ) (e : l ≡ limit b) where
-  module _ (s : Outcome) (h : Kept a Tree n s) where
-    drawn : draw_answer m (limit a) s ≡ all_fit l (came_out m s)
-    drawn = ok_first _ (passed_ok (both_obey m s) (d.obeyed s h)).1 ∙ ap (λ k. all_fit k (came_out m s)) (sym (e ∙ d.only.same_limit))
+  formed : WellFormedOutcome m s.field s.bench out
+  formed = outcome_is_well_formed m s.archive s.field s.bench sound
 
-    formed : WellFormedOutcome m s.field s.bench (came_out m s)
-    formed = outcome_is_well_formed m s.archive s.field s.bench (ready m h (d.obeyed s h))
+  merged : Merged out b new
+  merged = d.merges s.archive s.field s.bench (held (kept_on m f g d.obeyed d.same)) sound
 
-    module _ (t : Table) where
-      fails : {v : Refusal} → Err v ≡ fit_answer l (whose_at t) (pick t new) → fits l (whose_at t) (tree_of t (came_out m s)) ≡ Err v
-      fails f = fit_refused l (whose_at t) (pick t new) (tree_of t (came_out m s)) ((d.merged s h).counts t) f
+  drawn : draw_answer m (limit f) s ≡ all_fit l out
+  drawn = ok_first _ (passed_ok (both_obey m s) d.obeyed).1 ∙ ap (λ k. all_fit k out) (sym (d.limit_is ∙ d.same_limit ∙ d.same.limit_stays))
 
-      passes : Ok (tt {0}) ≡ fit_answer l (whose_at t) (pick t new)
-          → (fits l (whose_at t) (tree_of t (came_out m s)) ≡ Ok (tree_of t (came_out m s))) × (nodes (tree_of t (came_out m s)) ≤ l)
-      passes f = fit_passed l (whose_at t) (pick t new) (tree_of t (came_out m s)) ((d.merged s h).counts t) f
+  module _ (t : Table) where
+    fails : {v : Refusal} → Err v ≡ fit_answer l (whose_at t) (pick t new) → fits l (whose_at t) (tree_of t out) ≡ Err v
+    fails f = fit_refused l (whose_at t) (pick t new) (tree_of t out) (merged.counts t) f
 
-      new_holds : nodes (tree_of t (came_out m s)) ≤ l → Holds (view b (New t)) (pick t new) (tree_of t (came_out m s))
-      new_holds f =
-          let x = made t formed in
-          held_from (view b (New t)) (pick t new) (tree_of t (came_out m s)) ((d.merged s h).words t) x.well_formed ((d.merged s h).counts t)
-          (omega (arith, limit_small b)) (omega (arith, x.shallow, h.field.shallow, h.bench.shallow))
+    passes : Ok (tt {0}) ≡ fit_answer l (whose_at t) (pick t new)
+        → (fits l (whose_at t) (tree_of t out) ≡ Ok (tree_of t out)) × (nodes (tree_of t out) ≤ l)
+    passes f = fit_passed l (whose_at t) (pick t new) (tree_of t out) (merged.counts t) f
 
-  pub archive_refused : {v : Refusal} → Err v ≡ fit_answer l whose.Archive new.archive → Refuses m a n v
-  archive_refused f = record { answer_is = λ s h. drawn s h ∙ err_first _ (fails s h Archive f) }
+    new_holds : nodes (tree_of t out) ≤ l → Holds (view b (New t)) (pick t new) (tree_of t out)
+    new_holds few =
+        let x = made t formed in
+        held_from (view b (New t)) (pick t new) (tree_of t out) (merged.words t) x.well_formed (merged.counts t)
+        (omega (arith, limit_small b)) (omega (arith, x.shallow, (kept f).field.shallow, (kept f).bench.shallow))
 
-  pub field_refused : {v : Refusal} → Ok (tt {0}) ≡ fit_answer l whose.Archive new.archive → Err v ≡ fit_answer l whose.Field new.field
-      → Refuses m a n v
-  field_refused x f = record { answer_is = λ s h. drawn s h ∙ ok_first _ (passes s h Archive x).0 ∙ err_first _ (fails s h Field f) }
+  pub archive_refused : {v : Refusal} → Err v ≡ fit_answer l whose.Archive new.archive → draw_answer m (limit f) s ≡ Err v
+  archive_refused x = drawn ∙ err_first _ (fails Archive x)
 
-  pub bench_refused : {v : Refusal} → Ok (tt {0}) ≡ fit_answer l whose.Archive new.archive → Ok (tt {0}) ≡ fit_answer l whose.Field new.field
-      → Err v ≡ fit_answer l whose.Bench new.bench → Refuses m a n v
-  bench_refused x y f =
-      record {
-        answer_is = λ s h.
-            drawn s h ∙ ok_first _ (passes s h Archive x).0 ∙ ok_first _ (passes s h Field y).0 ∙ err_first _ (fails s h Bench f);
-      }
+  module _ (x : Ok (tt {0}) ≡ fit_answer l whose.Archive new.archive) where
+    pub field_refused : {v : Refusal} → Err v ≡ fit_answer l whose.Field new.field → draw_answer m (limit f) s ≡ Err v
+    field_refused y = drawn ∙ ok_first _ (passes Archive x).0 ∙ err_first _ (fails Field y)
 
-  module _ (x : Ok (tt {0}) ≡ fit_answer l whose.Archive new.archive) (y : Ok (tt {0}) ≡ fit_answer l whose.Field new.field)
-      (z : Ok (tt {0}) ≡ fit_answer l whose.Bench new.bench) where
-    all_passed : (s : Outcome) → Kept a Tree n s → draw_answer m (limit a) s ≡ Ok (came_out m s)
-    all_passed s h = drawn s h ∙ ok_first _ (passes s h Archive x).0 ∙ ok_first _ (passes s h Field y).0 ∙ ok_first _ (passes s h Bench z).0
+    module _ (y : Ok (tt {0}) ≡ fit_answer l whose.Field new.field) where
+      pub bench_refused : {v : Refusal} → Err v ≡ fit_answer l whose.Bench new.bench → draw_answer m (limit f) s ≡ Err v
+      bench_refused z = drawn ∙ ok_first _ (passes Archive x).0 ∙ ok_first _ (passes Field y).0 ∙ err_first _ (fails Bench z)
 
-    kept_new : (s : Outcome) → Kept a Tree n s → Kept b New new (came_out m s)
-    kept_new s h =
-        let i = (passes s h Archive x).1 in
-        let j = (passes s h Field y).1 in
-        let k = (passes s h Bench z).1 in
-        record {
-          archive = new_holds s h Archive i;
-          field = new_holds s h Field j;
-          bench = new_holds s h Bench k;
-          archive_few = omega arith;
-          field_few = omega arith;
-          bench_few = omega arith;
-          field_unmarked = (formed s h).field_sound.unmarked;
-          bench_unmarked = (formed s h).bench_sound.unmarked;
-        }
+      module _ (z : Ok (tt {0}) ≡ fit_answer l whose.Bench new.bench) where
+        kept_new : Kept b New new out
+        kept_new =
+            let i = (passes Archive x).1 in
+            let j = (passes Field y).1 in
+            let k = (passes Bench z).1 in
+            record {
+              archive = new_holds Archive i;
+              field = new_holds Field j;
+              bench = new_holds Bench k;
+              archive_few = omega arith;
+              field_few = omega arith;
+              bench_few = omega arith;
+              field_unmarked = formed.field_sound.unmarked;
+              bench_unmarked = formed.bench_sound.unmarked;
+            }
 
-    pub sizes_told : (s : Outcome) → Kept a Tree n s → Ok new ≡ sized (draw_answer m (limit a) s)
-    sizes_told s h = ap Ok (sizes_are (kept_new s h)) ∙ sym (ap sized (all_passed s h))
+        -- The outcome stands beside the trees.
+        pub outcome_came : Kept b New new (trees_in b New new)
+        outcome_came = kept_itself kept_new
 
-    pub outcome_kept : (s o : Outcome) → Kept a Tree n s → draw_answer m (limit a) s ≡ Ok o → Kept b New (sizes_of o) o
-    outcome_kept s o h f =
-        let came : came_out m s ≡ o = cc (all_passed s h) in
-        let k = kept_new s h in
-        subst (λ r. Kept b New (sizes_of r) r) came (subst (λ c. Kept b New c (came_out m s)) (sizes_are k) k)
+        pub outcome_is : Ok (trees_in b New new) ≡ draw_answer m (limit f) s
+        outcome_is =
+            ap Ok (kept_trees kept_new)
+            ∙ sym (drawn ∙ ok_first _ (passes Archive x).0 ∙ ok_first _ (passes Field y).0 ∙ ok_first _ (passes Bench z).0)
 
 -- The outcome is taken over, table by table.
 pub taken_over : {a b c d : Area} {n : Sizes} {s : Outcome}

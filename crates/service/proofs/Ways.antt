@@ -1,14 +1,15 @@
 -- Where the paths of edits lead.
-use Rattle.std.proofs.Common.{◌≡◌, ℕ, zero, suc, ◌+◌, ◌-◌, ◌≤◌, Bool, true, false, cond, T, ltb, leb, List, [], ◌∷◌, length, take, drop, Some, Ok, Err, Option, Result, sym, refl, ap, ◌∙◌, inl, inr, arith}
+use Rattle.std.proofs.Common.{◌≡◌, ℕ, zero, suc, ◌+◌, ◌-◌, ◌≤◌, Bool, true, false, cond, T, leb, List, [], ◌∷◌, length, take, drop, ◌++◌, Some, Ok, Err, Option, Result, sym, refl, ap, ◌∙◌, inl, inr, arith, length-append}
 use Rattle.records.specs.Reading.{passed}
-use Rattle.std.proofs.lemmas.List.{take_all, take-append-drop, length-take-le}
-use Rattle.std.proofs.lemmas.Bool.{true≢false, lt-ltb, leb-true, leb-false, cases_Bool, cond-true, cond-false, cond_both}
-use Rattle.model.specs.Trees.{Tree, missing, mark, node, kid, present, Path, at, names, names_of, nodes, marks}
+use Rattle.std.proofs.lemmas.List.{take_all, take_at, take-append-drop, length-take-le}
+use Rattle.std.proofs.lemmas.Grind.{common_steps}
+use Rattle.std.proofs.lemmas.Bool.{true≢false, leb-true, leb-false, cases_Bool, cond-true, cond-false, cond_both}
+use Rattle.model.specs.Trees.{Tree, missing, mark, node, kid, present, Path, at, names, names_of, marks}
 use Rattle.model.specs.Meaning.{Meaning, class_at, allowed}
 use Rattle.model.specs.Edits.{reached, HasParent}
 use Rattle.model.proofs.Trees.{at_missing, at-++}
 use Rattle.model.proofs.Place.{T_true}
-use Rattle.stored.specs.Words.{Stored, Stands, Holds, below}
+use Rattle.stored.specs.Words.{Stored, Stands, below}
 use Rattle.refusals.specs.declared.Refusal.{Refusal}
 use Rattle.refusals.specs.declared.Reason.TheVariants as reason
 use Rattle.refusals.specs.declared.Whose.{Whose}
@@ -16,15 +17,10 @@ use Rattle.refusals.specs.Numbers.{refused}
 use Rattle.editing.specs.declared.types.Reach.{Reach}
 use Rattle.editing.specs.Paths.{Reaches}
 use Rattle.editing.proofs.Routes.{falls_short}
-use Rattle.editing.proofs.Carried.{carried, carried_holds}
-use Rattle.ledger.specs.Answers.{parent, parent_stands, parent_allows}
+use Rattle.editing.proofs.Carried.{carried}
+use Rattle.ledger.specs.Answers.{parent, parent_stands, parent_allows, last_name}
 
--- What is present has nodes, and only that.
-pub nodes_tell : (t : Tree) → ltb 0 (nodes t) ≡ present t
-nodes_tell missing = refl
-nodes_tell mark = refl
-nodes_tell (node f) = lt-ltb 0 (nodes (node f)) (omega arith)
-
+-- The names of the children.
 pub names_below : (t : Tree) → names (below t) ≡ names_of t
 names_below missing = refl
 names_below mark = refl
@@ -55,55 +51,65 @@ found {t = t} {q = q} h u e =
     let s = h.here (present_whole t q e) in
     record { self = s.0; here = s.1; tree_is = s.2 ∙ ap (at t) (take_all _ q (leads_on t q u e)) }
 
--- A path of some names has a parent.
+-- A path of some names has a parent, and a last name.
 pub parent_is : (t : Tree) (p : Path) → (length p ≡ 0 → ⊥) → parent_stands t p ≡ present (at t (parent p))
 parent_is t [] z = absurd (z refl)
 parent_is t (k ∷ p) z = refl
 
--- The names gathered for a node that was found.
-pub gathered : {ws front : List ℕ} {pos : ℕ} {u : Tree} (change : List ℕ → List ℕ) (f : Found ws pos u)
-    → ((s : Stored) → Stands ws pos s → front ≡ change (names (below s.tree)))
-    → front ≡ change (names_of u)
-gathered {u = u} change f h = h f.self f.here ∙ ap change (ap (λ v. names (below v)) f.tree_is ∙ names_below u)
+module _ (p q : Path) (k : ℕ) (e : p ≡ q ++ k ∷ []) where
+  pub parent_split : parent p ≡ q
+  parent_split = ap parent e ∙ take_at q (k ∷ []) (length (q ++ k ∷ []) - 1) (omega (arith, length-append q (k ∷ [])))
 
--- What the parent allows, where the names that it will have are known.
-module _ (m : Meaning) (w : Whose) (t : Tree) (p : Path) (change : List ℕ → List ℕ) (z : length p ≡ 0 → ⊥) where
-  allows_is : parent_allows m w t p change
-      ≡ cond (allowed m (class_at m (Some 0) (parent p)) (change (names_of (at t (parent p))))) (Ok t) (Err (refused reason.Edit w (length p - 1)))
-  allows_is = go p z
-    where
-      go : (p : Path) → (length p ≡ 0 → ⊥)
-          → parent_allows m w t p change
-          ≡ cond (allowed m (class_at m (Some 0) (parent p)) (change (names_of (at t (parent p))))) (Ok t) (Err (refused reason.Edit w (length p - 1)))
-      go [] z = absurd (z refl)
-      go (k ∷ p) z = refl
+  last_split : last_name p ≡ k
+  last_split = ap last_name e ∙ grind (arith, common_steps)
 
-  -- The answer, by the names that were gathered for the parent and the class that was found for it.
-  module _ {ws front : List ℕ} {pos : ℕ} (f : Found ws pos (at t (parent p)))
-      (gathers : (s : Stored) → Stands ws pos s → front ≡ change (names (below s.tree)))
-      (class : Option ℕ) (class_is : class ≡ class_at m (Some 0) (parent p)) (b : Bool) (says : b ≡ allowed m class front) where
-    test_is : allowed m (class_at m (Some 0) (parent p)) (change (names_of (at t (parent p)))) ≡ b
-    test_is =
-        ap (allowed m (class_at m (Some 0) (parent p))) (sym (gathered change f gathers)) ∙ ap (λ k. allowed m k front) (sym class_is) ∙ sym says
+  some_name : length p ≡ 0 → ⊥
+  some_name z = omega (arith, ap length e, length-append q (k ∷ []))
 
-    pub allows : b ≡ true → ◌≡◌ {A = Result (Unit {0}) Refusal} (Ok (tt {0})) (passed (tt {0}) (parent_allows m w t p change))
-    allows y = sym (ap (passed (tt {0})) (allows_is ∙ cond-true _ _ _ (test_is ∙ y)))
+  less_one : length p - 1 ≡ length q
+  less_one = omega (arith, ap length e, length-append q (k ∷ []))
 
-    pub forbids : b ≡ false → ◌≡◌ {A = Result (Unit {0}) Refusal} (Err (refused reason.Edit w (length p - 1))) (passed (tt {0}) (parent_allows m w t p change))
-    forbids n = sym (ap (passed (tt {0})) (allows_is ∙ cond-false _ _ _ (test_is ∙ n)))
+  pub stands_split : (t : Tree) → parent_stands t p ≡ present (at t q)
+  stands_split t = parent_is t p some_name ∙ ap (λ r. present (at t r)) parent_split
 
--- What a path found in a region that is known by another name too.
-pub found_in : {ws xs ys : List ℕ} {n : ℕ} {t : Tree} {q : Path} {r : Reach}
-    → ((t : Tree) → Holds xs n t → marks t ≡ 0 → Reaches xs t q r)
-    → xs ≡ ys
-    → xs ≡ ws
-    → Holds ws n t
-    → marks t ≡ 0
-    → present (at t q) ≡ true
+  -- What the parent allows.
+  module _ (m : Meaning) (w : Whose) (t : Tree) (change : ℕ → List ℕ → List ℕ) where
+    abbrev asked : Bool
+    asked = allowed m (class_at m (Some 0) q) (change k (names_of (at t q)))
+
+    abbrev told : Path → ℕ → ℕ → Result Tree Refusal
+    told r j n = cond (allowed m (class_at m (Some 0) r) (change j (names_of (at t r)))) (Ok t) (Err (refused reason.Edit w n))
+
+    allows_is : parent_allows m w t p (change (last_name p)) ≡ cond asked (Ok t) (Err (refused reason.Edit w (length q)))
+    allows_is =
+        go p some_name
+        ∙ ap (λ n. told (parent p) (last_name p) n) less_one ∙ ap (λ r. told r (last_name p) (length q)) parent_split ∙ ap (λ j. told q j (length q)) last_split
+      where
+        go : (p : Path) → (length p ≡ 0 → ⊥) → parent_allows m w t p (change (last_name p)) ≡ told (parent p) (last_name p) (length p - 1)
+        go [] z = absurd (z refl)
+        go (k ∷ p) z = refl
+
+    -- The answer, by the names that were gathered for the parent and the class that was found for it.
+    module _ {ws front : List ℕ} {pos : ℕ} (f : Found ws pos (at t q))
+        (gathers : (s : Stored) → Stands ws pos s → front ≡ change k (names (below s.tree)))
+        (class : Option ℕ) (class_is : class ≡ class_at m (Some 0) q) (b : Bool) (says : b ≡ allowed m class front) where
+      asked_is : asked ≡ b
+      asked_is =
+          ap (allowed m (class_at m (Some 0) q)) (sym (gathers f.self f.here ∙ ap (change k) (ap (λ v. names (below v)) f.tree_is ∙ names_below (at t q))))
+          ∙ ap (λ c. allowed m c front) (sym class_is) ∙ sym says
+
+      pub allows : b ≡ true → ◌≡◌ {A = Result (Unit {0}) Refusal} (Ok (tt {0})) (passed (tt {0}) (parent_allows m w t p (change (last_name p))))
+      allows y = sym (ap (passed (tt {0})) (allows_is ∙ cond-true _ _ _ (asked_is ∙ y)))
+
+      pub forbids : b ≡ false → ◌≡◌ {A = Result (Unit {0}) Refusal} (Err (refused reason.Edit w (length q))) (passed (tt {0}) (parent_allows m w t p (change (last_name p))))
+      forbids n = sym (ap (passed (tt {0})) (allows_is ∙ cond-false _ _ _ (asked_is ∙ n)))
+
+-- What a path found in words that are known by another name too.
+pub found_in : {xs ys : List ℕ} {t : Tree} {q : Path} {r : Reach} → xs ≡ ys → Reaches xs t q r → marks t ≡ 0 → present (at t q) ≡ true
     → Found ys r.at (at t q)
-found_in {t = t} reach d e h u y =
-    let f = found (reach t (carried_holds e h) u) u y in
-    record { self = f.self; here = carried (sym d) f.here; tree_is = f.tree_is }
+found_in e h u y =
+    let f = found h u y in
+    record { self = f.self; here = carried (sym e) f.here; tree_is = f.tree_is }
 
 -- Where something stands, its parent stands.
 pub end_has_parent : (t : Tree) (p : Path) → present (at t p) ≡ true → parent_stands t p ≡ true

@@ -6,12 +6,14 @@ use Rattle.refusals.specs.declared.Refusal.{Refusal}
 use Rattle.stored.specs.Words.{Holds}
 use Rattle.area.specs.Views.{view, limit}
 use Rattle.area.specs.declared.types.Area.{Area}
-use Rattle.area.specs.declared.regions.Table.{Table}
-use Rattle.area.specs.declared.regions.Table.TheVariants.{Archive, Field, Bench}
+use Rattle.tables.specs.declared.Table.{Table}
+use Rattle.tables.specs.declared.Table.TheVariants.{Archive, Field, Bench}
 use Rattle.area.specs.declared.regions.Region.{Region}
 use Rattle.area.specs.declared.regions.Region.TheVariants.{Tree, New}
-use Rattle.merging.specs.declared.types.Sizes.{Sizes}
-use Rattle.service.specs.Decoding.{tree_in}
+use Rattle.merging.specs.Tables.{Sizes}
+use Rattle.stored.specs.Decoding.{tree_in}
+use Rattle.service.specs.declared.types.Place.{Place}
+use Rattle.service.specs.declared.types.Place.TheVariants as place
 
 -- The trees of so many nodes, each in the region for its table.
 abbrev pub trees_in : Area → (Table → Region) → Sizes → Outcome
@@ -29,18 +31,19 @@ pub record Kept (a : Area) (place : Table → Region) (n : Sizes) (s : Outcome) 
   pub field_unmarked : marks s.field ≡ 0
   pub bench_unmarked : marks s.bench ≡ 0
 
--- What a file relies on: its area holds trees, whichever they are.
+abbrev pub region_of : Place → Table → Region
+region_of place.Own t = Tree t
+region_of place.Outcome t = New t
+
+-- Trees are kept there, whichever they are.
+abbrev pub KeepsAt : Area → Place → Sizes → Type 0
+KeepsAt a x n = Kept a (region_of x) n (trees_in a (region_of x) n)
+
+-- What a file relies on.
 abbrev pub Keeps : Area → Sizes → Type 0
-Keeps a n = Kept a Tree n (trees_in a Tree n)
+Keeps a n = KeepsAt a place.Own n
 
--- A round holds those too, and its outcome beside them, unless the draw was refused.
+-- A round has its outcome beside those, unless the draw was refused.
 abbrev pub Came : Area → Result Sizes Refusal → Type 0
-Came a (Ok n) = Kept a New n (trees_in a New n)
+Came a (Ok n) = KeepsAt a place.Outcome n
 Came a (Err e) = Unit {0}
-
-abbrev pub sizes_of : Outcome → Sizes
-sizes_of s = record { archive = nodes s.archive; field = nodes s.field; bench = nodes s.bench }
-
-abbrev pub sized : Result Outcome Refusal → Result Sizes Refusal
-sized (Ok s) = Ok (sizes_of s)
-sized (Err e) = Err e

@@ -1,4 +1,3 @@
-pub mod Decoding
 pub mod Keeping
 pub mod Edits
 pub mod Service

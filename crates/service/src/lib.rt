@@ -6,53 +6,30 @@ ghost use Rattle.refusals.specs.Output.{told as told_length, left as left_in};
 ghost use Rattle.records.specs.Writing.{written};
 ghost use Rattle.records.specs.Reading.{says};
 ghost use Rattle.model.specs.Trees.{marks as marks_of};
-ghost use Rattle.stored.specs.Words.{Holds};
 ghost use Rattle.area.specs.Layout.{limit_of};
 ghost use Rattle.ledger.specs.Answers.{load_answer, put_answer, strike_answer, draw_answer, left, told};
 ghost use Rattle.ledger.specs.Ledger.{start, file, drawn, held, refusal_of};
 ghost use Rattle.text.specs.Report.{report as report_of};
-ghost use Rattle.service.specs.Service.{trees, limit as file_limit, of_file, before, came, of_round, round_limit, pick, size_in, kind_of, wanted_of, reported};
+ghost use Rattle.service.specs.Service.{trees, limit as file_limit, of_file, before, came, of_round, round_limit, shown as shown_in, pick, kind_of, wanted_of, reported};
 
-use area::{Area, Region, Table};
-use drawing::take_over;
+use area::{Area, Table};
+use editing::adopt;
 use ledger::Side;
 use merging::Sizes;
-use records::TreeKind;
-use refusals::Refusal;
+use obeying::{class_at, read_copy};
+use refusals::{Refusal, Whose};
 use rules::Rulebook;
-use stored::mark_count;
-use text::{Held, write_refusal_line, write_report};
-use transfer::write;
+use text::write_refusal_line;
+use types::{Change, Place, Shown};
 
 mod copies;
 mod drawing;
 mod edits;
-mod loads;
 mod paths;
+mod shown;
 mod types;
 
 pub use types::{File, Round};
-
-// The number of nodes of one of three trees.
-fn count(table: Table, sizes: Sizes) -> usize
-    ensures { result ≡ size_in table sizes }
-{
-    match table {
-        Table::Archive => sizes.archive,
-        Table::Field => sizes.field,
-        Table::Bench => sizes.bench,
-    }
-}
-
-// The kind of its record file.
-fn kind(table: Table) -> TreeKind
-    ensures { result ≡ kind_of table }
-{
-    match table {
-        Table::Archive => TreeKind::Archive,
-        _ => TreeKind::Copy,
-    }
-}
 
 impl File {
     // Makes a file over an area of any length. It holds three missing trees.
@@ -82,7 +59,8 @@ impl File {
         ensures state { trees self.new ≡ left (trees self.old) (load_answer (R.meaning rules.now) (file_limit self.old) archive.now field.now bench.now) }
         ensures limit { file_limit self.new ≡ file_limit self.old }
     {
-        self.sizes = loads::load(rules, &mut self.area, archive, field, bench)?;
+        let views = loading::load(rules, &mut self.area, archive, field, bench)?;
+        self.sizes = loading::counts(views);
         Ok(())
     }
 
@@ -98,8 +76,12 @@ impl File {
         ensures state { trees self.new ≡ left (trees self.old) (put_answer (R.meaning rules.now) (file_limit self.old) (trees self.old) side path.now bytes.now) }
         ensures limit { file_limit self.new ≡ file_limit self.old }
     {
-        self.sizes = edits::put(rules, &mut self.area, self.sizes, side, path, bytes)?;
-        Ok(())
+        self.both_obey(rules)?;
+        self.lead(side, path, self.has_parent(side, path))?;
+        self.parent_allows(rules, side, path, Change::Put)?;
+        let class = class_at(rules, path);
+        let view = read_copy(rules, class, bytes, Whose::Brought, path.len())?;
+        self.replace(side, path, view)
     }
 
     // Takes away what stands at a path of a side's copy. A refused strike changes nothing.
@@ -113,27 +95,30 @@ impl File {
         ensures state { trees self.new ≡ left (trees self.old) (strike_answer (R.meaning rules.now) (trees self.old) side path.now) }
         ensures limit { file_limit self.new ≡ file_limit self.old }
     {
-        self.sizes = edits::strike(rules, &mut self.area, self.sizes, side, path)?;
+        self.both_obey(rules)?;
+        self.lead(side, path, self.stands(side, path))?;
+        self.parent_allows(rules, side, path, Change::Strike)?;
+        self.renew(side, path, 0);
         Ok(())
     }
 
     // Turns the file into a round. A refused draw gives a round too: its outcome is the file's own trees.
-    pub fn draw<R: Rulebook>(self, rules: &R) -> Round
+    pub fn draw<R: Rulebook>(mut self, rules: &R) -> Round
         ensures state { of_round result ≡ drawn (trees self) (draw_answer (R.meaning rules.now) (file_limit self) (trees self)) }
         ensures limit { round_limit result ≡ file_limit self }
     {
-        let File { mut area, sizes } = self;
-        let drawn = drawing::draw(rules, &mut area, sizes);
-        Round { area, sizes, drawn }
+        let drawn = self.draw_beside(rules);
+        Round { file: self, drawn }
     }
 
-    // One of the three trees.
-    fn shown(&self, table: Table) -> Held<'_>
-        ensures { Holds result.words.now result.count (pick table (trees self.now)) }
+    // The three trees.
+    fn trees(&self) -> Shown<'_>
+        ensures { shown_in result ≡ trees self.now }
     {
-        Held {
-            words: self.area.part(Region::Tree(table)),
-            count: count(table, self.sizes),
+        Shown {
+            area: &self.area,
+            place: Place::Own,
+            sizes: self.sizes,
         }
     }
 
@@ -144,8 +129,7 @@ impl File {
         ensures output { out.new ≡ left_in (written (pick table (trees self.now)) (kind_of table)) out.old }
         ensures reads_back { (n : ℕ) → result ≡ Ok n → says (take n out.new) (wanted_of table) ≡ Ok (pick table (trees self.now)) }
     {
-        let tree = self.shown(table);
-        write(tree.words, tree.count, kind(table), out)
+        self.trees().write_out(table, out)
     }
 
     // Writes the text report: the number of marks in the archive and the three trees. Answers its length. The bytes behind it stay. An output that
@@ -154,8 +138,7 @@ impl File {
         ensures answer { result ≡ told_length (report_of (trees self.now)) out.old }
         ensures output { out.new ≡ left_in (report_of (trees self.now)) out.old }
     {
-        let (field, bench) = (self.shown(Table::Field), self.shown(Table::Bench));
-        write_report(self.shown(Table::Archive), field, bench, out)
+        self.trees().report(out)
     }
 }
 
@@ -165,21 +148,15 @@ impl Round {
         ensures state { of_file result ≡ file (held (of_round self)) }
         ensures limit { file_limit result ≡ round_limit self }
     {
-        let Round {
-            mut area,
-            sizes: before,
-            drawn,
-        } = self;
-        match drawn {
-            Ok(new) => {
-                take_over(&mut area, new);
-                File { area, sizes: new }
-            }
-            Err(_) => File {
-                area,
-                sizes: before,
-            },
-        }
+        let Round { mut file, drawn } = self;
+        let Ok(new) = drawn else {
+            return file;
+        };
+        adopt(&mut file.area, Table::Archive, new.archive);
+        adopt(&mut file.area, Table::Field, new.field);
+        adopt(&mut file.area, Table::Bench, new.bench);
+        file.sizes = new;
+        file
     }
 
     // Turns the round into the file that it was drawn from.
@@ -187,37 +164,28 @@ impl Round {
         ensures state { of_file result ≡ file (before self) }
         ensures limit { file_limit result ≡ round_limit self }
     {
-        let Round {
-            area,
-            sizes,
-            drawn: _,
-        } = self;
-        File { area, sizes }
+        let Round { file, drawn: _ } = self;
+        file
     }
 
     // Why the draw was refused, if it was.
     pub fn refusal(&self) -> Option<Refusal>
         ensures { result ≡ refusal_of (came self.now) }
     {
-        match self.drawn {
-            Ok(_) => None,
-            Err(refusal) => Some(refusal),
-        }
+        self.drawn.err()
     }
 
-    // One of the three trees of the outcome.
-    fn shown(&self, table: Table) -> Held<'_>
-        ensures { Holds result.words.now result.count (pick table (held (of_round self.now))) }
+    // The three trees of the outcome; after a refused draw they are the file's.
+    fn held(&self) -> Shown<'_>
+        ensures { shown_in result ≡ held (of_round self.now) }
     {
         match self.drawn {
-            Ok(new) => Held {
-                words: self.area.part(Region::New(table)),
-                count: count(table, new),
+            Ok(new) => Shown {
+                area: &self.file.area,
+                place: Place::Outcome,
+                sizes: new,
             },
-            Err(_) => Held {
-                words: self.area.part(Region::Tree(table)),
-                count: count(table, self.sizes),
-            },
+            Err(_) => self.file.trees(),
         }
     }
 
@@ -225,8 +193,7 @@ impl Round {
     pub fn marks(&self) -> usize
         ensures { result ≡ marks_of (held (of_round self.now)).archive }
     {
-        let tree = self.shown(Table::Archive);
-        mark_count(tree.words, tree.count)
+        self.held().tree(Table::Archive).mark_count()
     }
 
     // Writes one of the three trees of the outcome as a record file, as a file does.
@@ -235,8 +202,7 @@ impl Round {
         ensures output { out.new ≡ left_in (written (pick table (held (of_round self.now))) (kind_of table)) out.old }
         ensures reads_back { (n : ℕ) → result ≡ Ok n → says (take n out.new) (wanted_of table) ≡ Ok (pick table (held (of_round self.now))) }
     {
-        let made = self.shown(table);
-        write(made.words, made.count, kind(table), out)
+        self.held().write_out(table, out)
     }
 
     // Writes the text report: the number of marks and the three trees of the outcome, or the line of the refusal. Answers its length. The bytes
@@ -248,8 +214,6 @@ impl Round {
         if let Err(refusal) = self.drawn {
             return write_refusal_line(refusal, out);
         }
-        let archive = self.shown(Table::Archive);
-        let copies = (self.shown(Table::Field), self.shown(Table::Bench));
-        write_report(archive, copies.0, copies.1, out)
+        self.held().report(out)
     }
 }

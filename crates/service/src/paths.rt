@@ -1,76 +1,27 @@
 // Where a path leads in a copy, and what the parent of its end allows.
 ghost use Rattle.std.specs.Prelude.{◌≡◌, true, [], ◌∷◌, length, take};
-ghost use Rattle.model.specs.Trees.{Tree as TheTree, present, names, marks, at as what_stands_at};
+ghost use Rattle.model.specs.Trees.{present, names, nodes, at as what_stands_at};
 ghost use Rattle.records.specs.Reading.{passed};
-ghost use Rattle.stored.specs.Words.{Holds, Stored, Stands, Standing, below};
+ghost use Rattle.stored.specs.Words.{Stored, Stands, Standing, below};
 ghost use Rattle.area.specs.Views.{view, Only};
 ghost use Rattle.area.specs.declared.regions.Region.TheVariants.{Tree, Names};
-ghost use Rattle.ledger.specs.Answers.{whose_of, leads, parent_stands, parent_allows, last_name};
-ghost use Rattle.service.specs.Edits.{table_of, changed, there};
+ghost use Rattle.ledger.specs.Answers.{whose_of, copy, leads, parent_stands, parent_allows, last_name};
+ghost use Rattle.service.specs.Service.{trees, Same};
+ghost use Rattle.service.specs.Edits.{changed};
 
-use crate::copies::table;
-use crate::types::Change;
+use crate::types::{Change, File};
 use area::{Area, Region, Table};
 use editing::{gather_with, gather_without, nodes_at, reach};
 use ledger::Side;
 use obeying::{allowed, class_at};
-use refusals::{Reason, Refusal, Whose};
+use refusals::{Reason, Refusal};
 use rules::Rulebook;
 
 // The most names of a path.
 const MOST_NAMES: usize = 32;
 
-// Whether something stands at the end of a path.
-fn stands(words: &[u32], count: usize, path: &[u32]) -> bool
-    requires { (t : TheTree) × Holds words.now count t × (marks t ≡ 0) }
-    ensures { (t : TheTree) → Holds words.now count t → marks t ≡ 0 → result ≡ present (what_stands_at t path.now) }
-{
-    nodes_at(words, count, path) > 0
-}
-
-// Whether the parent of the end of a path stands; the empty path has none and needs none.
-fn has_parent(words: &[u32], count: usize, path: &[u32]) -> bool
-    requires { (t : TheTree) × Holds words.now count t × (marks t ≡ 0) }
-    ensures { (t : TheTree) → Holds words.now count t → marks t ≡ 0 → result ≡ parent_stands t path.now }
-{
-    if path.len() == 0 {
-        return true;
-    }
-    stands(words, count, &path[..path.len() - 1])
-}
-
-// Whether a path leads to where an edit is to be made.
-pub(crate) fn leads_there(words: &[u32], count: usize, path: &[u32], change: Change) -> bool
-    requires { (t : TheTree) × Holds words.now count t × (marks t ≡ 0) }
-    ensures { (t : TheTree) → Holds words.now count t → marks t ≡ 0 → result ≡ there change t path.now }
-{
-    match change {
-        Change::Put => has_parent(words, count, path),
-        Change::Strike => stands(words, count, path),
-    }
-}
-
-// Refuses a path that is too long, or one that does not lead there.
-pub(crate) fn lead(
-    words: &[u32],
-    count: usize,
-    whose: Whose,
-    path: &[u32],
-    there: bool,
-) -> Result<(), Refusal>
-    requires { (t : TheTree) × Holds words.now count t × (marks t ≡ 0) }
-    ensures { (t : TheTree) → Holds words.now count t → marks t ≡ 0 → result ≡ passed tt (leads whose t path.now there) }
-{
-    if path.len() > MOST_NAMES {
-        return Err(Reason::Path.refuse(whose, MOST_NAMES));
-    }
-    if there {
-        return Ok(());
-    }
-    Err(Reason::Path.refuse(whose, reach(words, count, path).names))
-}
-
 // The names that a node will have, gathered at the front of the names region.
+// A match of two cases: the contract of a closure in its place would have to tell what it gathers from every area, and is longer.
 fn gather_changed(area: &mut Area, table: Table, at: usize, name: u32, change: Change) -> usize
     requires { Standing (view area.old (Tree table)) at }
     ensures many { (s : Stored) → Stands (view area.old (Tree table)) at s → result ≡ length (changed change name (names (below s.tree))) }
@@ -83,30 +34,69 @@ fn gather_changed(area: &mut Area, table: Table, at: usize, name: u32, change: C
     }
 }
 
-// Refuses an edit after which the names of the parent are not allowed.
-pub(crate) fn parent_allows<R: Rulebook>(
-    rules: &R,
-    area: &mut Area,
-    side: Side,
-    count: usize,
-    path: &[u32],
-    change: Change,
-) -> Result<(), Refusal>
-    requires { (t : TheTree) × Holds (view area.old (Tree (table_of side))) count t × (marks t ≡ 0) × (parent_stands t path.now ≡ true) }
-    ensures answer { (t : TheTree) → Holds (view area.old (Tree (table_of side))) count t → marks t ≡ 0 → parent_stands t path.now ≡ true → result ≡ passed tt (parent_allows (R.meaning rules.now) (whose_of side) t path.now (changed change (last_name path.now))) }
-    ensures only { Only (Names ∷ []) area.old area.new }
-{
-    if path.len() == 0 {
-        return Ok(());
+// A side and a path are two parameters, as they are in a call; a struct of both would be taken apart again in each body.
+impl File {
+    // The number of nodes of what stands at a path of a side's copy.
+    pub(crate) fn nodes_at(&self, side: Side, path: &[u32]) -> usize
+        ensures { result ≡ nodes (what_stands_at (copy side (trees self.now)) path.now) }
+    {
+        let (words, count) = self.copy(side);
+        nodes_at(words, count, path)
     }
-    let last = path.len() - 1;
-    let parent = &path[..last];
-    let table = table(side);
-    let at = reach(area.part(Region::Tree(table)), count, parent).at;
-    let many = gather_changed(area, table, at, path[last], change);
-    let class = class_at(rules, parent);
-    if allowed(rules, class, &area.part(Region::Names)[..many]) {
-        return Ok(());
+
+    // Whether something stands there.
+    pub(crate) fn stands(&self, side: Side, path: &[u32]) -> bool
+        ensures { result ≡ present (what_stands_at (copy side (trees self.now)) path.now) }
+    {
+        self.nodes_at(side, path) > 0
     }
-    Err(Reason::Edit.refuse(side.whose(), last))
+
+    // Whether the parent of the end of a path stands; the empty path has none and needs none.
+    pub(crate) fn has_parent(&self, side: Side, path: &[u32]) -> bool
+        ensures { result ≡ parent_stands (copy side (trees self.now)) path.now }
+    {
+        let Some((_, parent)) = path.split_last() else {
+            return true;
+        };
+        self.stands(side, parent)
+    }
+
+    // Refuses a path that is too long, or one that does not lead to what must stand for an edit.
+    pub(crate) fn lead(&self, side: Side, path: &[u32], there: bool) -> Result<(), Refusal>
+        ensures { result ≡ passed tt (leads (whose_of side) (copy side (trees self.now)) path.now there) }
+    {
+        if path.len() > MOST_NAMES {
+            return Err(Reason::Path.refuse(side.into(), MOST_NAMES));
+        }
+        if there {
+            return Ok(());
+        }
+        let (words, count) = self.copy(side);
+        Err(Reason::Path.refuse(side.into(), reach(words, count, path).names))
+    }
+
+    // Refuses an edit after which the names of the parent are not allowed.
+    pub(crate) fn parent_allows<R: Rulebook>(
+        &mut self,
+        rules: &R,
+        side: Side,
+        path: &[u32],
+        change: Change,
+    ) -> Result<(), Refusal>
+        requires { parent_stands (copy side (trees self.old)) path.now ≡ true }
+        ensures answer { result ≡ passed tt (parent_allows (R.meaning rules.now) (whose_of side) (copy side (trees self.old)) path.now (changed change (last_name path.now))) }
+        ensures same { Same self.old self.new }
+    {
+        let Some((last, parent)) = path.split_last() else {
+            return Ok(());
+        };
+        let (words, count) = self.copy(side);
+        let at = reach(words, count, parent).at;
+        let many = gather_changed(&mut self.area, side.into(), at, *last, change);
+        let class = class_at(rules, parent);
+        if allowed(rules, class, &self.area.part(Region::Names)[..many]) {
+            return Ok(());
+        }
+        Err(Reason::Edit.refuse(side.into(), parent.len()))
+    }
 }

@@ -1,5 +1,4 @@
-ghost use Rattle.area.specs.declared.regions.Region.TheVariants.{Tree};
-ghost use Rattle.service.specs.Keeping.{Keeps, Came};
+ghost use Rattle.service.specs.Keeping.{Keeps, KeepsAt, Came};
 
 use area::Area;
 use merging::Sizes;
@@ -13,14 +12,28 @@ pub struct File {
     ghost ok: { ∥ Keeps area sizes ∥₁ },
 }
 
-// A round that was drawn from a file: it keeps the trees of the file, and has its outcome beside them, or the refusal of the draw.
+// A round that was drawn from a file: it keeps the file, and has its outcome beside the trees, or the refusal of the draw.
 #[derive(Drop)]
 pub struct Round {
-    pub(crate) area: Area,
-    pub(crate) sizes: Sizes,
+    pub(crate) file: File,
     pub(crate) drawn: Result<Sizes, Refusal>,
-    ghost ok: { ∥ Keeps area sizes ∥₁ },
-    ghost came: { ∥ Came area drawn ∥₁ },
+    ghost came: { ∥ Came file.area drawn ∥₁ },
+}
+
+// Where three trees stand in an area: those of a file, or the outcome of a round.
+#[derive(Clone, Copy)]
+pub(crate) enum Place {
+    Own,
+    Outcome,
+}
+
+// Three trees, to be read.
+#[derive(Clone, Copy)]
+pub(crate) struct Shown<'a> {
+    pub(crate) area: &'a Area,
+    pub(crate) place: Place,
+    pub(crate) sizes: Sizes,
+    ghost ok: { ∥ KeepsAt area.now place sizes ∥₁ },
 }
 
 // What an edit does with the child under the last name of a path.

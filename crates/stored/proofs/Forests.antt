@@ -1,6 +1,6 @@
 -- Forests, one behind the other.
 use Rattle.std.proofs.Common.{◌≡◌, ℕ, ◌+◌, List, refl, ap, subst, arith}
-use Rattle.model.specs.Trees.{Forest, empty, child, WellFormedAll, nodes, nodes_all, marks_all}
+use Rattle.model.specs.Trees.{Forest, empty, child, WellFormedAll, nodes, nodes_all}
 use Rattle.stored.specs.Words.{emit, emits, Row}
 use Rattle.stored.proofs.Places.{second}
 
@@ -15,10 +15,6 @@ sound_join (child n t f) g s r = (s.0, s.1, sound_join f g s.2 r)
 pub nodes_join : (f g : Forest) → nodes_all (join f g) ≡ nodes_all f + nodes_all g
 nodes_join empty g = omega arith
 nodes_join (child n t f) g = omega (arith, nodes_join f g)
-
-pub marks_join : (f g : Forest) → marks_all (join f g) ≡ marks_all f + marks_all g
-marks_join empty g = omega arith
-marks_join (child n t f) g = omega (arith, marks_join f g)
 
 pub emits_join : (f g : Forest) (rest : List ℕ) → emits (join f g) rest ≡ emits f (emits g rest)
 emits_join empty g rest = refl

@@ -93,21 +93,6 @@ pub starts_find : (k : ℕ) (f : Forest) → starts k (from_on k f) ≡ true →
 starts_find k f h =
     starts_view k (from_on k f) h ∙ ap (λ t. child k t (behind (from_on k f))) (sym (find_onward k k f (omega arith)))
 
--- From there the next lookup may also go on behind that tree.
-pub onward_behind : (j k : ℕ) (f : Forest) → starts j (from_on j f) ≡ true → j < k → from_on k f ≡ from_on k (behind (from_on j f))
-onward_behind j k f h l =
-    onward j k f (omega arith) ∙ ap (from_on k) (starts_find j f h) ∙ passed k j (find f j) (behind (from_on j f)) l
-
-pub find_behind : (j k : ℕ) (f : Forest) → starts j (from_on j f) ≡ true → j < k → find f k ≡ find (behind (from_on j f)) k
-find_behind j k f h l =
-    find_onward j k f (omega arith)
-    ∙ ap (λ g. find g k) (starts_find j f h)
-    ∙ find_tail k j (find f j) (behind (from_on j f)) (λ e. omega arith)
-
-pub ascends_behind : (f : Forest) → Ascends (names f) → Ascends (names (behind f))
-ascends_behind empty a = tt
-ascends_behind (child n t f) a = a.1
-
 -- The trees that are not passed stand where the lookup stops.
 pub row_onward : {ws : List ℕ} {at : ℕ} {f : Forest} {rest : List ℕ} (k : ℕ) → Row ws at f rest
     → Row ws (at + nodes_all (smaller k f)) (from_on k f) rest

@@ -1,9 +1,9 @@
 -- The trees of a forest from one of its nodes on.
-use Rattle.std.proofs.Common.{◌≡◌, ℕ, zero, suc, ◌+◌, ◌*◌, ◌<◌, ◌≤◌, cond, T, List, drop, sym, refl, ap, ◌∙◌, subst, add-one, arith}
-use Rattle.model.specs.Trees.{Tree, missing, mark, node, Forest, empty, child, present, is_mark, WellFormed, WellFormedAll, nodes, nodes_all, marks, marks_all}
-use Rattle.stored.specs.Words.{emit, emits, below, Stands, Row, Begins}
-use Rattle.stored.proofs.Places.{emit_view, nodes_below, nodes_some, sound_below, head}
-use Rattle.stored.proofs.Forests.{join, sound_join, nodes_join, marks_join, emits_join}
+use Rattle.std.proofs.Common.{◌≡◌, ℕ, zero, suc, ◌+◌, ◌*◌, ◌<◌, ◌≤◌, T, List, drop, sym, refl, ap, ◌∙◌, subst, arith}
+use Rattle.model.specs.Trees.{Tree, missing, mark, node, Forest, empty, child, present, WellFormed, WellFormedAll, nodes, nodes_all}
+use Rattle.stored.specs.Words.{emit, emits, below, Row, Begins}
+use Rattle.stored.proofs.Places.{emit_view, nodes_below, nodes_some, sound_below}
+use Rattle.stored.proofs.Forests.{join, sound_join, nodes_join, emits_join}
 
 -- The trees from node number i on, of which none lies in another.
 abbrev pub from : ℕ → Forest → Forest
@@ -23,14 +23,6 @@ sound_open n t f s = sound_join (below t) f (sound_below t s.1) s.2
 
 pub nodes_open : (t : Tree) (f : Forest) → T (present t) → suc (nodes_all (join (below t) f)) ≡ nodes t + nodes_all f
 nodes_open t f p = omega (arith, nodes_join (below t) f, nodes_below t p)
-
-marks_below : (t : Tree) → cond (is_mark t) 1 0 + marks_all (below t) ≡ marks t
-marks_below missing = omega arith
-marks_below mark = omega arith
-marks_below (node f) = omega arith
-
-pub marks_open : (t : Tree) (f : Forest) → cond (is_mark t) 1 0 + marks_all (join (below t) f) ≡ marks t + marks_all f
-marks_open t f = omega (arith, marks_join (below t) f, marks_below t)
 
 pub sound_from : (i : ℕ) (f : Forest) → WellFormedAll f → WellFormedAll (from i f)
 sound_from zero f s = s
@@ -70,11 +62,6 @@ pub nodes_alone : (t : Tree) → nodes_all (alone t) ≡ nodes t
 nodes_alone missing = refl
 nodes_alone mark = omega arith
 nodes_alone (node f) = omega arith
-
-pub marks_alone : (t : Tree) → marks_all (alone t) ≡ marks t
-marks_alone missing = refl
-marks_alone mark = omega arith
-marks_alone (node f) = omega arith
 
 pub emit_alone : (t : Tree) (rest : List ℕ) → emit t 0 rest ≡ emits (alone t) rest
 emit_alone missing rest = refl
@@ -135,14 +122,3 @@ row_from {ws} {t} b j l =
       words =
           ap (drop (3 * j)) (b.words ∙ emit_alone t b.rest) ∙ words_from j (alone t) b.rest s (omega (arith, nodes_alone t));
     }
-
-pub stands_nth : {ws : List ℕ} {t : Tree} {j : ℕ} (b : Begins ws t) (x : Nth t j) → j < nodes t
-    → Stands ws j (head x.name x.tree x.more b.rest x.sound)
-stands_nth {j = j} b x l = record { words = (row_from b j (omega arith)).words ∙ ap (λ f. emits f b.rest) x.is }
-
--- The marks from node number j on are those behind it, and itself if it is one.
-pub marks_from : {t : Tree} {j : ℕ} (x : Nth t j) → marks_all (from j (alone t)) ≡ cond (is_mark x.tree) 1 0 + marks_all (from (j + 1) (alone t))
-marks_from {t} {j} x =
-    ap marks_all x.is
-    ∙ sym (marks_open x.tree x.more)
-    ∙ ap (λ f. cond (is_mark x.tree) 1 0 + marks_all f) (sym x.next ∙ ap (λ i. from i (alone t)) (sym (add-one j)))

@@ -1,12 +1,13 @@
 -- The place of a child.
-use Rattle.std.proofs.Common.{◌≡◌, ℕ, ◌+◌, Bool, cond, eqb, List, Some, None, sym, refl, ◌∙◌, inl, inr, arith}
+use Rattle.std.proofs.Common.{◌≡◌, ℕ, ◌+◌, cond, eqb, List, Some, None, Ok, Err, sym, refl, ◌∙◌, inl, inr, arith}
 use Rattle.std.proofs.lemmas.Bool.{cases_order, cases_eq, lt-ltb, le-ltb, eq-eqb, ne_eqb, cond-true, cond-false}
 use Rattle.model.specs.Trees.{missing, Forest, empty, child, find, names, Below, Ascends, present, WellFormedAll, nodes, nodes_all}
 use Rattle.model.proofs.Place.{T_true}
 use Rattle.model.proofs.Lists.{below_trans}
 use Rattle.model.proofs.Trees.{find_head, find_tail}
 use Rattle.stored.specs.Words.{Row}
-use Rattle.stored.specs.Lookup.{smaller, from_on, starts, place}
+use Rattle.std.specs.Result.{result_ok}
+use Rattle.stored.specs.Lookup.{smaller, from_on, starts, place, Spot, at_of, is_found}
 use Rattle.stored.proofs.Places.{second}
 use Rattle.stored.proofs.Lookup.{Under, under}
 
@@ -34,9 +35,14 @@ place_sought (child n t f) k at a =
           ]
     ]
 
-pub placed : (f : Forest) (k at : ℕ) → Ascends (names f) → (stop : ℕ) (found : Bool) → stop ≡ at + nodes_all (smaller k f)
-    → found ≡ starts k (from_on k f) → cond found (Some stop) None ≡ place f k at
-placed f k at a stop found x y = let e = place_sought f k at a in cc
+told : (s : Spot) → result_ok s ≡ cond (is_found s) (Some (at_of s)) None
+told (Ok i) = refl
+told (Err i) = refl
+
+-- A lookup that found the name tells its place.
+pub placed : (f : Forest) (k at : ℕ) → Ascends (names f) → (s : Spot) → at_of s ≡ at + nodes_all (smaller k f)
+    → is_found s ≡ starts k (from_on k f) → result_ok s ≡ place f k at
+placed f k at a s x y = told s ∙ (λ i. cond (y i) (Some (x i)) None) ∙ place_sought f k at a
 
 -- None exactly if there is no such child.
 pub place_none : (f : Forest) (k at : ℕ) → WellFormedAll f → place f k at ≡ None → find f k ≡ missing

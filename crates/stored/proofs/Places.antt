@@ -1,6 +1,6 @@
 -- What the words of a stored tree tell.
-use Rattle.std.proofs.Common.{◌≡◌, ℕ, suc, ◌+◌, ◌*◌, ◌≤◌, T, eqb, List, ◌∷◌, length, get_or, drop, sym, refl, ap, ◌∙◌, arith, length-drop, get_or-drop, drop-drop}
-use Rattle.model.specs.Trees.{Tree, missing, mark, node, Forest, empty, child, present, is_mark, WellFormed, WellFormedAll, nodes, nodes_all}
+use Rattle.std.proofs.Common.{◌≡◌, ℕ, suc, ◌+◌, ◌*◌, ◌≤◌, T, List, ◌∷◌, length, get_or, drop, sym, refl, ap, ◌∙◌, arith, length-drop, get_or-drop, drop-drop}
+use Rattle.model.specs.Trees.{Tree, missing, mark, node, Forest, empty, child, present, WellFormed, WellFormedAll, nodes, nodes_all}
 use Rattle.stored.specs.Words.{tree_word, mark_word, emit, emits, below, Stored, Stands, Row, Begins}
 
 -- Three words at a place of a list.
@@ -26,11 +26,6 @@ abbrev pub kind : Tree → ℕ
 kind missing = tree_word
 kind mark = mark_word
 kind (node f) = tree_word
-
-pub kind_tells : (t : Tree) → eqb (kind t) 1 ≡ is_mark t
-kind_tells missing = refl
-kind_tells mark = refl
-kind_tells (node f) = refl
 
 -- The words of a tree begin with its name, its number of nodes and its kind.
 pub emit_view : (t : Tree) (n : ℕ) (rest : List ℕ) → T (present t) → emit t n rest ≡ n ∷ nodes t ∷ kind t ∷ emits (below t) rest

@@ -1,11 +1,10 @@
 -- Words tell the tree: what stands at a place is one tree, under one name.
-use Rattle.std.proofs.Common.{◌≡◌, ℕ, ◌+◌, ◌*◌, Bool, true, false, T, List, [], ◌∷◌, ◌++◌, length, take, drop, Decides, sym, refl, ap, ◌∙◌, append_assoc, arith, length-drop, drop-drop}
-use Rattle.std.proofs.lemmas.List.{take_at, drop-append-le}
+use Rattle.std.proofs.Common.{◌≡◌, ℕ, ◌+◌, Bool, true, false, T, List, [], ◌∷◌, ◌++◌, drop, Decides, sym, refl, ap, ◌∙◌, append_assoc, arith}
 use Rattle.std.proofs.lemmas.Bool.{both_ways}
 use Rattle.model.specs.Trees.{Tree, missing, mark, node, Forest, empty, child, present, WellFormed, WellFormedAll, nodes, nodes_all, same}
 use Rattle.model.proofs.Trees.{one_same, not_same}
 use Rattle.stored.specs.Words.{tree_word, emit, emits, Stored, Stands}
-use Rattle.stored.proofs.Places.{nodes_some, length_emit}
+use Rattle.stored.proofs.Places.{nodes_some}
 
 pub record Same (t u : Tree) (m k : ℕ) (x y : List ℕ) : Type 0 where
   pub trees : t ≡ u
@@ -68,15 +67,6 @@ mutual
 -- The words of a tree without its name.
 abbrev pub body : Stored → List ℕ
 body s = drop 1 (emit s.tree s.name [])
-
-pub own_body : {ws : List ℕ} {at : ℕ} {s : Stored} (k : ℕ) → Stands ws at s → k + 1 ≡ 3 * nodes s.tree → take k (drop (3 * at + 1) ws) ≡ body s
-own_body {ws} {at} {s} k h e =
-    let own = emit s.tree s.name [] in
-    let long : length own ≡ 3 * nodes s.tree = omega (arith, length_emit s.tree s.name []) in
-    ap (take k) (sym (drop-drop 1 (3 * at) ws)
-    ∙ ap (drop 1) (h.words ∙ emit_rest s.tree s.name s.rest)
-    ∙ drop-append-le 1 own s.rest (omega arith))
-    ∙ take_at (drop 1 own) s.rest k (length-drop 1 own ∙ omega arith)
 
 under_zero : (s : Stored) → emit s.tree 0 [] ≡ 0 ∷ body s
 under_zero s = go s.tree s.is_present

@@ -1,2 +1,5 @@
 pub mod Words
+pub mod Decoding
+pub mod Own
+pub mod Nodes
 pub mod Lookup

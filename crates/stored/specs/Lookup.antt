@@ -1,5 +1,5 @@
 -- A name looked up among siblings, whose names ascend.
-use Rattle.std.specs.Prelude.{◌≡◌, ℕ, ◌+◌, Bool, false, cond, List, Some, None, Option, ◌==◌, nat_lt}
+use Rattle.std.specs.Prelude.{◌≡◌, ℕ, ◌+◌, Bool, true, false, cond, List, Some, None, Option, Ok, Err, Result, ◌==◌, nat_lt}
 use Rattle.model.specs.Trees.{Forest, empty, child, nodes, nodes_all}
 use Rattle.stored.specs.Words.{Row}
 
@@ -23,6 +23,18 @@ from_on k (child n t f) = cond (nat_lt n k) (from_on k f) (child n t f)
 abbrev pub starts : ℕ → Forest → Bool
 starts k empty = false
 starts k (child n t f) = n == k
+
+-- Where a lookup stopped: at the name, or else at the first larger one or behind them all.
+abbrev pub Spot : Type 0
+Spot = Result ℕ ℕ
+
+abbrev pub at_of : Spot → ℕ
+at_of (Ok i) = i
+at_of (Err i) = i
+
+abbrev pub is_found : Spot → Bool
+is_found (Ok i) = true
+is_found (Err i) = false
 
 -- The number of the node under the name k, in a forest whose first node has the number `at`.
 abbrev pub place : Forest → ℕ → ℕ → Option ℕ

@@ -1,4 +1,4 @@
-pub mod Laying
-pub mod Texts
 pub mod Worked
 pub mod Reported
+pub mod Laying
+pub mod Texts

@@ -1,8 +1,7 @@
--- The text form of a tree and of a refusal.
-use Rattle.std.specs.Prelude.{ℕ, Bool, true, false, cond, not, ◌&&◌, List, [], ◌++◌, codes, decimal, ◌==◌}
+-- The text form of a tree, and beside it that of a refusal.
+use Rattle.std.specs.Prelude.{ℕ, Bool, true, false, cond, List, [], ◌++◌, codes, decimal, ◌==◌}
 use Rattle.model.specs.Trees.{Tree, missing, mark, node, Forest, empty, child}
-use Rattle.refusals.specs.declared.Refusal.{Refusal}
-use Rattle.refusals.specs.Numbers.{number_of, layer_of, layer_number, whose_number}
+pub use Rattle.refusals.specs.Line.{line, refusal_line}
 
 -- A node without children.
 abbrev pub bare : Tree → Bool
@@ -32,25 +31,10 @@ abbrev mutual
   others empty = []
   others (child n t rest) = codes "," ++ (decimal n ++ (under t (text t) ++ others rest))
 
--- What stands before the text of a child.
-abbrev pub label : Bool → ℕ → Tree → List ℕ
-label first n t = cond first [] (codes ",") ++ (decimal n ++ cond (bare t) [] (codes ":"))
+-- Below the root a colon stands before a text.
+abbrev pub colon : ℕ → List ℕ
+colon d = cond (d == 0) [] (codes ":")
 
--- At the root the text of a tree, and below it what follows a label: the text, unless the tree is bare.
-abbrev pub hidden : ℕ → Tree → Bool
-hidden d t = not (d == 0) && bare t
-
-abbrev pub shown : ℕ → Tree → List ℕ
-shown d t = cond (hidden d t) [] (text t)
-
--- A refusal: its number, its layer, whose tree it is about, and the place.
-abbrev pub line : Refusal → List ℕ
-line r =
-    (codes "refused " ++ decimal (number_of r.reason))
-    ++ ((codes " layer " ++ decimal (layer_number (layer_of r.reason)))
-    ++ ((codes " whose " ++ decimal (whose_number r.whose))
-    ++ (codes " place " ++ decimal r.place)))
-
--- With the newline that ends it.
-abbrev pub refusal_line : Refusal → List ℕ
-refusal_line r = line r ++ codes "\n"
+-- What is written of a tree at a depth: the text of the root, and below it what follows a name.
+abbrev pub placed : ℕ → Tree → List ℕ
+placed d t = cond (d == 0) (text t) (under t (text t))

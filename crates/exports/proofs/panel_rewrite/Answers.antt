@@ -1,46 +1,45 @@
-use Rattle.std.proofs.Common.{length}
-use Rattle.refusals.specs.declared.Whose.TheVariants.{Field}
+use Rattle.std.proofs.Common.{length, ap, ◌∙◌, arith}
+use Rattle.refusals.specs.Output.{told, left}
+use Rattle.records.specs.declared.TreeKind.TheVariants.{Copy}
+use Rattle.records.specs.Writing.{written}
 use Rattle.records.specs.Reading.{says}
-use Rattle.records.proofs.Fits.{found}
-use Rattle.obeying.specs.Lawful.{copy_of}
-use Rattle.exports.proofs.Rewriting.{held, refused_length, refused_output, crowded_length, crowded_output, fits_length, fits_output}
+use Rattle.records.specs.Views.{tree_of}
+use Rattle.transfer.proofs.Storing.{held}
+use Rattle.exports.specs.Answers.{rewritten_length, rewritten}
+use Rattle.exports.proofs.Rewriting.{crowded_length, crowded_output, fits_length, fits_output}
 use Rattle.exports.proofs.panel_rewrite.Goals as goal
 
-pub returns-in-Err : goal.returns-in-Err
-returns-in-Err c =
+pub returns-in_default : goal.returns-in_default
+returns-in_default c =
+    let e = c.in_default.ensures.answer ∙ ap (says c.args.bytes.now) c.copy.ensures in
     record {
-      answer = refused_length c.args.bytes.now (says c.args.bytes.now (copy_of Field 0)) (length c.args.words.now) c.args.out.now _ c.in-Err.ensures.answer;
-      output = refused_output c.args.bytes.now (says c.args.bytes.now (copy_of Field 0)) (length c.args.words.now) c.args.out.now _ c.in-Err.ensures.answer;
+      answer = ap (λ x. rewritten_length x (length c.args.words.now) c.args.out.now) e;
+      output = ap (λ x. rewritten x (length c.args.words.now) c.args.out.now) e;
     }
 
-pub returns-then-words-view : goal.returns-then-words-view
-returns-then-words-view c =
-    let bs = c.args.bytes.now in
-    let f = found bs (copy_of Field 0) c.in-Ok.view (λ i. (c.type_inv.bytes i).fits) c.in-Ok.ensures.answer in
+pub returns-then-words-count : goal.returns-then-words-count
+returns-then-words-count c =
+    let e = c.in-Ok.ensures.answer ∙ ap (says c.args.bytes.now) c.copy.ensures in
     record {
-      answer = crowded_length bs (says bs (copy_of Field 0)) (length c.args.words.now) c.args.out.now f.tree _ f.is f.shows.count c.if-words-view.true;
-      output = crowded_output bs (says bs (copy_of Field 0)) (length c.args.words.now) c.args.out.now f.tree _ f.is f.shows.count c.if-words-view.true;
+      answer = crowded_length _ (length c.args.words.now) c.args.out.now (tree_of c.in-Ok.view) c.count.result e c.count.ensures c.if-words-count.true;
+      output = crowded_output _ (length c.args.words.now) c.args.out.now (tree_of c.in-Ok.view) c.count.result e c.count.ensures c.if-words-count.true;
     }
 
 pub store-requires : goal.store-requires
-store-requires c =
-    let f = found c.args.bytes.now (copy_of Field 0) c.in-Ok.view (λ i. (c.type_inv.bytes i).fits) c.in-Ok.ensures.answer in
-    record { shown = (f.tree, f.shows); room = c.if-words-view.false }
+store-requires c = omega (arith, c.count.ensures, c.if-words-count.false)
 
-pub write-requires : goal.write-requires
-write-requires c =
-    let f = found c.args.bytes.now (copy_of Field 0) c.in-Ok.view (λ i. (c.type_inv.bytes i).fits) c.in-Ok.ensures.answer in
-    record { held = (f.tree, held _ _ f.shows (c.store.ensures f.tree f.shows)) }
+pub new-tree-requires : goal.new-tree-requires
+new-tree-requires c = (tree_of c.in-Ok.view, held c.in-Ok.view _ c.count-2.ensures c.store.ensures)
 
 pub returns : goal.returns
 returns c =
-    let bs = c.args.bytes.now in
-    let f = found bs (copy_of Field 0) c.in-Ok.view (λ i. (c.type_inv.bytes i).fits) c.in-Ok.ensures.answer in
-    let h = held _ _ f.shows (c.store.ensures f.tree f.shows) in
+    let e = c.in-Ok.ensures.answer ∙ ap (says c.args.bytes.now) c.copy.ensures in
+    let same = c.new-tree.ensures _ (held c.in-Ok.view _ c.count-2.ensures c.store.ensures) in
     record {
       answer =
-          fits_length bs (says bs (copy_of Field 0)) (length c.args.words.now) c.args.out.now f.tree _ f.is f.shows.count c.if-words-view.false _ _ c.unwrap_or.ensures
-          (c.write.ensures.answer f.tree h);
+          fits_length _ (length c.args.words.now) c.args.out.now (tree_of c.in-Ok.view) c.count.result e c.count.ensures c.if-words-count.false _ c.write.result c.unwrap_or.ensures
+          (c.write.ensures.answer ∙ ap (λ t. told (written t Copy) c.args.out.now) same);
       output =
-          fits_output bs (says bs (copy_of Field 0)) (length c.args.words.now) c.args.out.now f.tree _ f.is f.shows.count c.if-words-view.false _ (c.write.ensures.after f.tree h);
+          fits_output _ (length c.args.words.now) c.args.out.now (tree_of c.in-Ok.view) c.count.result e c.count.ensures c.if-words-count.false _
+          (c.write.ensures.after ∙ ap (λ t. left (written t Copy) c.args.out.now) same);
     }

@@ -23,8 +23,8 @@ returns-in_err-push g c =
 
 pub loop-call-preserved : goal.loop-call-preserved
 loop-call-preserved g c =
-    let s = c.step-next.ensures in
-    (goes_on _ _ _ c.step-next.result.1 _ c.loop-call.invariant.0 c.loop-call-test.true c.loop-call.invariant.1 s.state s.answer c.in_ok-push.ensures.items, s.limit ∙ c.loop-call.invariant.1)
+    let s = c.take-next.ensures in
+    (goes_on _ _ _ c.take-next.result.1 _ c.loop-call.invariant.0 c.loop-call-test.true c.loop-call.invariant.1 s.state s.answer c.in_ok-push.ensures.items, s.limit ∙ c.loop-call.invariant.1)
 
 pub returns : goal.returns
 returns g c =

@@ -1,9 +1,10 @@
 use Rattle.std.proofs.Common.{◌+◌, ◌*◌, cond, [], ◌∷◌, ◌++◌, take, drop, refl, ap, ◌∙◌, arith}
+use Rattle.stored.specs.Lookup.{at_of}
 use Rattle.area.specs.Views.{view}
-use Rattle.area.specs.declared.regions.Table.TheVariants.{Archive, Field, Bench}
+use Rattle.tables.specs.declared.Table.TheVariants.{Archive, Field, Bench}
 use Rattle.area.specs.declared.regions.Region.TheVariants.{New, Stack}
 use Rattle.area.proofs.Laws.{also, wider, limit_small}
-use Rattle.merging.specs.Tables.{pick}
+use Rattle.tables.specs.Pick.{pick}
 use Rattle.merging.specs.Frames.{frame_words}
 use Rattle.merging.proofs.Finding.{found_present}
 use Rattle.merging.proofs.Writing.{by_table}
@@ -59,13 +60,12 @@ returns c =
             pile =
                 ap (drop c.push.result) (c.open_all.ensures.only.same Stack refl)
                 ∙ c.push.ensures.pile
-                ∙ ap (λ s. frame_words (record { class = c.args.class; ends = s; field = h.field.at; bench = h.bench.at; new = w.new }) ++ rest)
-                (c.past_all.ensures ts f);
+                ∙ (λ i. frame_words (record { class = c.args.class; ends = c.past_all.ensures ts f i; field = c.place.ensures i; bench = c.place-2.ensures i; new = w.new }) ++ rest);
             at =
                 λ i. record {
-                  archive = (c.inside.ensures ∙ ap (λ b. h.archive.at + cond b 1 0) (found_present (f Archive))) i;
-                  field = (c.inside-2.ensures ∙ ap (λ b. h.field.at + cond b 1 0) (found_present (f Field))) i;
-                  bench = (c.inside-3.ensures ∙ ap (λ b. h.bench.at + cond b 1 0) (found_present (f Bench))) i;
+                  archive = (c.inside.ensures ∙ ap (λ b. at_of h.places.archive + cond b 1 0) (found_present (f Archive))) i;
+                  field = (c.inside-2.ensures ∙ ap (λ b. at_of h.places.field + cond b 1 0) (found_present (f Field))) i;
+                  bench = (c.inside-3.ensures ∙ ap (λ b. at_of h.places.bench + cond b 1 0) (found_present (f Bench))) i;
                 };
             new = c.open_all.ensures.ends;
             words = λ t.

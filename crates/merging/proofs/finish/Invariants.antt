@@ -1,7 +1,7 @@
 use Rattle.std.proofs.Common.{[], ◌∷◌}
 use Rattle.model.specs.Round.{Outcome}
 use Rattle.area.specs.Views.{Only}
-use Rattle.area.specs.declared.regions.Table.TheVariants.{Archive, Field, Bench}
+use Rattle.tables.specs.declared.Table.TheVariants.{Archive, Field, Bench}
 use Rattle.area.specs.declared.regions.Region.TheVariants.{New, Stack, Names}
 use Rattle.merging.specs.Going.{Busy, State, work}
 use Rattle.merging.proofs.finish.Given as goal

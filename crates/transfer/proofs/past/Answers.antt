@@ -1,16 +1,24 @@
+use Rattle.std.proofs.Common.{◌+◌, ap, ◌∙◌, arith}
+use Rattle.model.specs.Trees.{nodes}
+use Rattle.stored.proofs.Places.{node_at}
 use Rattle.transfer.proofs.Storing.{set_out, on_way, one_less, arrived}
 use Rattle.transfer.proofs.past.Goals as goal
 
-pub loop-more-init : goal.loop-more-init
-loop-more-init c f s = set_out s
+pub loop-init : goal.loop-init
+loop-init c f s = set_out _ s (omega arith)
 
-pub next-pos-requires : goal.next-pos-requires
-next-pos-requires c = let a = on_way (c.loop-more.invariant _ c.requires.1) c.loop-more-test.true in (_, a.here)
+pub at-requires : goal.at-requires
+at-requires c = let a = on_way (c.loop.invariant _ c.requires.1) (omega arith) in (_, a.here)
 
-pub loop-more-preserved : goal.loop-more-preserved
-loop-more-preserved c f s =
-    let a = on_way (c.loop-more.invariant f s) c.loop-more-test.true in
-    one_less c.loop-more-test.true a _ (c.next-pos.ensures _ a.here)
+pub overflow_add-pos : goal.overflow_add-pos
+overflow_add-pos c =
+    let a = on_way (c.loop.invariant _ c.requires.1) (omega arith) in
+    omega (arith, (node_at a.here).whole, c.node_count-pos.ensures ∙ ap nodes (c.at.ensures.tree _ a.here))
+
+pub loop-preserved : goal.loop-preserved
+loop-preserved c f s =
+    let a = on_way (c.loop.invariant f s) (omega arith) in
+    one_less _ a _ (omega arith) (ap (λ k. c.loop.pos + k) (c.node_count-pos.ensures ∙ ap nodes (c.at.ensures.tree _ a.here)))
 
 pub returns : goal.returns
-returns c f s = arrived (c.loop-more.invariant f s) c.loop-more-test.false
+returns c f s = arrived (c.loop.invariant f s) (omega arith)

@@ -1,13 +1,9 @@
-use Rattle.std.proofs.Common.{◌*◌, ◌≤◌, drop}
-use Rattle.model.specs.Trees.{Tree}
-use Rattle.stored.specs.Words.{Holds}
+use Rattle.std.proofs.Common.{[]}
+use Rattle.std.specs.Iterator.Adapters.{enumerate_source, enumerate_count}
+use Rattle.stored.specs.Nodes.{every, tree_held, nodes_left}
 use Rattle.transfer.proofs.Writing.{Wrote}
 use Rattle.transfer.proofs.put_records.Given as goal
 
 abbrev pub invariant-loop-i : goal.invariant-loop-i
 invariant-loop-i l =
-    (l.i ≤ l.count)
-    × ((t : Tree) → Holds l.words l.count t → Wrote t l.i (drop (8 * l.count) l.initial.out) l.out)
-
-abbrev pub decreases-loop-i : goal.decreases-loop-i
-decreases-loop-i l = l.i
+    Wrote (every 0 (tree_held l.fn.tree) []) (enumerate_count l.i-iterator) (nodes_left (enumerate_source l.i-iterator)) l.initial.out l.out

@@ -8,8 +8,8 @@ use Rattle.editing.proofs.reaching.nodes_at.Goals as goal
 pub returns-then-count-eq0 : goal.returns-then-count-eq0
 returns-then-count-eq0 c t h u = sym (none_at t c.args.path.now (omega (arith, h.count, c.if-count-eq0.true)))
 
-pub node_count-requires : goal.node_count-requires
-node_count-requires c =
+pub at-requires : goal.at-requires
+at-requires c =
     let s = (c.reach-end.ensures c.requires.0 c.requires.1 c.requires.2).here (some_present c.requires.0 _ c.requires.1.count c.if-count-eq0.false) in
     (s.0, s.1)
 
@@ -22,5 +22,6 @@ pub returns-else-end-path : goal.returns-else-end-path
 returns-else-end-path c t h u =
     let r = c.reach-end.ensures t h u in
     let s = r.here (some_present t _ h.count c.if-count-eq0.false) in
-    c.node_count.ensures _ s.1
+    c.node_count.ensures
+    ∙ ap nodes (c.at.ensures.tree _ s.1)
     ∙ ap nodes (s.2 ∙ ap (at t) (take_all _ c.args.path.now (omega (arith, r.names))))

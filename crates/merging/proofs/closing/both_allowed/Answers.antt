@@ -1,5 +1,5 @@
 use Rattle.std.proofs.Common.{refl}
-use Rattle.area.specs.declared.regions.Table.TheVariants.{Bench}
+use Rattle.tables.specs.declared.Table.TheVariants.{Bench}
 use Rattle.area.specs.declared.regions.Region.TheVariants.{New}
 use Rattle.area.proofs.Laws.{also}
 use Rattle.merging.proofs.Writing.{listing_in}

@@ -1,5 +1,5 @@
 use Rattle.std.proofs.Common.{sym, refl, ap}
-use Rattle.area.specs.declared.regions.Table.TheVariants.{Field, Bench}
+use Rattle.tables.specs.declared.Table.TheVariants.{Field, Bench}
 use Rattle.area.specs.declared.regions.Region.TheVariants.{Tree as Old, New}
 use Rattle.area.proofs.Laws.{also, wider}
 use Rattle.merging.specs.Tables.{tree_of}

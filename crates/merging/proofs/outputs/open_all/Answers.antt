@@ -1,5 +1,5 @@
 use Rattle.std.proofs.Common.{◌*◌, [], ◌∷◌, ◌++◌, take, sym, ap, ◌∙◌, arith}
-use Rattle.area.specs.declared.regions.Table.TheVariants.{Archive, Field, Bench}
+use Rattle.tables.specs.declared.Table.TheVariants.{Archive, Field, Bench}
 use Rattle.merging.proofs.Regions.{twice, thrice}
 use Rattle.merging.proofs.Writing.{by_table}
 use Rattle.merging.proofs.outputs.open_all.Goals as goal

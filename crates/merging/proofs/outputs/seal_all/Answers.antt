@@ -1,5 +1,5 @@
 use Rattle.std.proofs.Common.{sym, refl, ◌∙◌}
-use Rattle.area.specs.declared.regions.Table.TheVariants.{Archive, Field, Bench}
+use Rattle.tables.specs.declared.Table.TheVariants.{Archive, Field, Bench}
 use Rattle.merging.proofs.Writing.{by_table, grown_in, opened_in}
 use Rattle.merging.proofs.Regions.{thrice}
 use Rattle.area.specs.declared.regions.Region.TheVariants.{New}

@@ -1,5 +1,5 @@
 use Rattle.std.proofs.Common.{refl, arith}
-use Rattle.area.specs.declared.regions.Table.TheVariants.{Archive, Field, Bench}
+use Rattle.tables.specs.declared.Table.TheVariants.{Archive, Field, Bench}
 use Rattle.merging.proofs.Regions.{twice, thrice, still_finds}
 use Rattle.merging.proofs.Writing.{by_table, grown_in}
 use Rattle.merging.proofs.outputs.settle.Goals as goal

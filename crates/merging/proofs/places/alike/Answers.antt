@@ -1,31 +1,25 @@
-use Rattle.std.proofs.Common.{sym, ap, ◌∙◌}
-use mathlib.Core.Bool.{beq}
+use Rattle.std.proofs.Common.{◌∙◌}
 use Rattle.model.specs.Trees.{same}
-use Rattle.merging.proofs.places.alike.Goals.{else-x-via-then-x+else-y, else-x-via-else-x}
-use Rattle.merging.proofs.Finding.{carried, stood, nothing, found_present, none_first, none_second}
+use Rattle.merging.proofs.Finding.{carried, stood_at, nothing_at, neither, first_only, second_only}
 use Rattle.merging.proofs.places.alike.Goals as goal
 
-pub same-requires : goal.same-requires
-same-requires c =
-    record {
-      left = (_, carried c.part-xs.ensures.words (stood c.requires.4 c.if-x.true).here);
-      right = (_, carried c.part-ys.ensures.words (stood c.requires.5 c.if-y.true).here);
-    }
+pub at-requires : goal.at-requires
+at-requires c = (_, carried c.part-xs.ensures.words (stood_at c.in-Ok-Ok.is-0 c.requires.4).here)
 
-pub returns-then-y : goal.returns-then-y
-returns-then-y c j k a b ha hb =
-    c.same.ensures _ _ (carried c.part-xs.ensures.words (stood ha c.if-x.true).here)
-    (carried c.part-ys.ensures.words (stood hb c.if-y.true).here)
+pub at-requires-in-Ok-Ok : goal.at-requires-in-Ok-Ok
+at-requires-in-Ok-Ok c = (_, carried c.part-ys.ensures.words (stood_at c.in-Ok-Ok.is-1 c.requires.5).here)
 
-pub returns-else-x : goal.returns-else-x
-returns-else-x c j k a b ha hb =
-    let x = found_present ha in
-    let y = found_present hb in
-    elim c.else-x.branch [
-      | else-x-via-then-x+else-y w ↦
-          let e = nothing hb w.if-y.false in
-          (λ i. beq (x i) (w.if-y.false i)) ∙ none_second a ∙ ap (same a) (sym e)
-      | else-x-via-else-x w ↦
-          let e = nothing ha w.if-x.false in
-          (λ i. beq (w.if-x.false i) (y i)) ∙ none_first b ∙ ap (λ t. same t b) (sym e)
-    ]
+pub returns-in-Ok-Ok : goal.returns-in-Ok-Ok
+returns-in-Ok-Ok c j k a b ha hb =
+    let x = c.at.ensures.tree _ (carried c.part-xs.ensures.words (stood_at c.in-Ok-Ok.is-0 ha).here) in
+    let y = c.at-in-Ok-Ok.ensures.tree _ (carried c.part-ys.ensures.words (stood_at c.in-Ok-Ok.is-1 hb).here) in
+    c.same.ensures ∙ λ i. same (x i) (y i)
+
+pub returns-in-Err-Err : goal.returns-in-Err-Err
+returns-in-Err-Err c j k a b ha hb = neither (nothing_at c.in-Err-Err.is-0 ha) (nothing_at c.in-Err-Err.is-1 hb)
+
+pub returns-in-Ok-Err : goal.returns-in-Ok-Err
+returns-in-Ok-Err c j k a b ha hb = first_only a b (stood_at c.in-Ok-Err.is-0 ha).is_present (nothing_at c.in-Ok-Err.is-1 hb)
+
+pub returns-in-Ok-Err-2 : goal.returns-in-Ok-Err-2
+returns-in-Ok-Err-2 c j k a b ha hb = second_only a b (nothing_at c.in-Ok-Err.is-0 ha) (stood_at c.in-Ok-Err.is-1 hb).is_present

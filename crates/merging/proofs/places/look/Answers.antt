@@ -1,4 +1,4 @@
-use Rattle.area.specs.declared.regions.Table.TheVariants.{Archive, Field, Bench}
+use Rattle.tables.specs.declared.Table.TheVariants.{Archive, Field, Bench}
 use Rattle.merging.proofs.Writing.{by_table}
 use Rattle.merging.proofs.places.look.Goals as goal
 

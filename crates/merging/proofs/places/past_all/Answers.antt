@@ -1,4 +1,4 @@
-use Rattle.area.specs.declared.regions.Table.TheVariants.{Archive, Field, Bench}
+use Rattle.tables.specs.declared.Table.TheVariants.{Archive, Field, Bench}
 use Rattle.merging.proofs.places.past_all.Goals as goal
 
 pub past-requires : goal.past-requires

@@ -1,6 +1,6 @@
 use Rattle.std.proofs.Common.{◌-◌, [], ◌∷◌, drop, refl, ap, ◌∙◌, arith}
 use Rattle.area.specs.Views.{view}
-use Rattle.area.specs.declared.regions.Table.TheVariants.{Archive, Field, Bench}
+use Rattle.tables.specs.declared.Table.TheVariants.{Archive, Field, Bench}
 use Rattle.area.specs.declared.regions.Region.TheVariants.{Stack}
 use Rattle.area.proofs.Laws.{view_length}
 use Rattle.merging.proofs.Stacking.{stacked}

@@ -1,12 +1,8 @@
-use Rattle.std.proofs.Common.{rules}
-use Rattle.rules.proofs.Walks.{ascending_on, ascending_not, ascending_end}
+use Rattle.std.proofs.Common.{ltb, rules, tests}
+use Rattle.std.proofs.lemmas.Fn.{always_returns_same}
+use Rattle.rules.proofs.Walks.{ascending_told}
 use Rattle.rules.proofs.names.ascends.Goals as goal
 
-pub returns-then-names-i : goal.returns-then-names-i
-returns-then-names-i c = search (rules, ascending_not)
-
-pub loop-i-preserved : goal.loop-i-preserved
-loop-i-preserved c = search (rules, ascending_on)
-
 pub returns : goal.returns
-returns c = search (rules, ascending_end)
+returns c =
+    ascending_told c.args.names.now c.is_sorted_by.result (c.is_sorted_by.ensures.cases ltb (always_returns_same _ _ _ (λ a r f k. search (rules, tests))))

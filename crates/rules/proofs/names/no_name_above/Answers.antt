@@ -1,12 +1,10 @@
-use Rattle.std.proofs.Common.{rules}
-use Rattle.rules.proofs.Walks.{up_to_on, up_to_not, up_to_end}
+use Rattle.std.proofs.Common.{◌∙◌, leb, rules, tests}
+use Rattle.std.proofs.lemmas.Iterator.{YieldsList-from_slice}
+use Rattle.std.proofs.lemmas.Iterator.Search.{all_from_yields_List}
+use Rattle.rules.proofs.Walks.{all_up_to}
 use Rattle.rules.proofs.names.no_name_above.Goals as goal
 
-pub returns-then-name-last : goal.returns-then-name-last
-returns-then-name-last c = search (rules, up_to_not)
-
-pub loop-name-preserved : goal.loop-name-preserved
-loop-name-preserved c = search (rules, up_to_on)
-
 pub returns : goal.returns
-returns c = search (rules, up_to_end)
+returns c =
+    all_from_yields_List (λ k. leb k c.args.last) _ _ _ c.all.ensures.ran (YieldsList-from_slice c.args.names.now cc) (λ x b q k. search (rules, tests))
+    ∙ all_up_to c.args.last c.args.names.now

@@ -1,33 +1,36 @@
-use Rattle.std.proofs.Common.{Err, ap, ◌∙◌}
-use Rattle.std.proofs.lemmas.Result.{err_from_is_err_and}
-use Rattle.area.specs.declared.regions.Region.TheVariants.{Tree}
-use Rattle.service.specs.Keeping.{trees_in}
-use Rattle.service.proofs.Once.{kept_trees, kept_itself, open_keeps}
-use Rattle.service.proofs.Methods.{stays, moves, tells_refusal, tells_done}
+use Rattle.std.proofs.Common.{sym, ap, ◌∙◌}
+use Rattle.model.specs.Trees.{missing, present, at}
+use Rattle.ledger.specs.Answers.{whose_of, copy, left}
+use Rattle.service.specs.Service.{trees}
+use Rattle.service.specs.Edits.{edited}
+use Rattle.service.proofs.Files.{same_on}
+use Rattle.service.proofs.Ways.{end_has_parent}
+use Rattle.service.proofs.Renewing.{struck}
+use Rattle.service.proofs.Answering.{led_there, has_parent, all_passed, strike_done}
 use Rattle.service.proofs.types.File.strike.Goals as goal
 
-pub strike-requires : goal.strike-requires
-strike-requires g c = (trees_in c.args.self.now.area Tree c.args.self.now.sizes, open_keeps c.args.self.now.area Tree c.args.self.now.sizes c.args.self.now.ok)
+pub parent_allows-requires : goal.parent_allows-requires
+parent_allows-requires g c =
+    let t = copy c.args.side (trees c.both_obey.new.self) in
+    let p = c.args.path.now in
+    end_has_parent t p (sym c.stands.ensures ∙ (led_there (whose_of c.args.side) t p _ c.in_ok-lead.ensures).leads_there)
 
-pub invariant_of-self : goal.invariant_of-self
-invariant_of-self g c =
-    let k = open_keeps c.args.self.now.area Tree c.args.self.now.sizes c.args.self.now.ok in
-    record { ok = ∣ kept_itself (stays k (c.in_err-self.ensures _ k)) ∣₁ }
+pub renew-requires : goal.renew-requires
+renew-requires g c =
+    let e = c.args.side in
+    let p = c.args.path.now in
+    let t = copy e (trees c.both_obey.new.self) in
+    let l = led_there (whose_of e) t p _ c.in_ok-lead.ensures in
+    (missing, struck c.parent_allows.new.self e p (has_parent e p c.parent_allows.ensures.same (end_has_parent t p (sym c.stands.ensures ∙ l.leads_there))) l.short)
 
-pub returns-in_err-self : goal.returns-in_err-self
-returns-in_err-self g c =
-    let k = open_keeps c.args.self.now.area Tree c.args.self.now.sizes c.args.self.now.ok in
-    let x = c.in_err-self.ensures _ k in
-    let r = err_from_is_err_and c.from_residual.result c.from_residual.ensures.1 in
-    record { answer = r.1 ∙ ap Err r.2 ∙ tells_refusal x; state = kept_trees (stays k x); limit = x.same_limit }
-
-pub invariant_of-self-2 : goal.invariant_of-self-2
-invariant_of-self-2 g c =
-    let k = open_keeps c.args.self.now.area Tree c.args.self.now.sizes c.args.self.now.ok in
-    record { ok = ∣ kept_itself (moves (c.in_ok-self.ensures _ k)) ∣₁ }
-
-pub returns : goal.returns
-returns g c =
-    let k = open_keeps c.args.self.now.area Tree c.args.self.now.sizes c.args.self.now.ok in
-    let x = c.in_ok-self.ensures _ k in
-    record { answer = tells_done x; state = kept_trees (moves x); limit = x.same_limit }
+pub returns-clause-state : goal.returns-clause-state
+returns-clause-state g c =
+    let e = c.args.side in
+    let p = c.args.path.now in
+    let t = copy e (trees c.both_obey.new.self) in
+    let l = led_there (whose_of e) t p _ c.in_ok-lead.ensures in
+    let w = struck c.parent_allows.new.self e p (has_parent e p c.parent_allows.ensures.same (end_has_parent t p (sym c.stands.ensures ∙ l.leads_there))) l.short in
+    let x = all_passed (λ t. present (at t p)) c.both_obey.ensures.same c.in_ok-both_obey.ensures.answer c.stands.ensures c.in_ok-lead.ensures c.in_ok-parent_allows.ensures.answer in
+    c.renew.ensures.state missing w
+    ∙ ap (λ s. edited s e p missing) (same_on c.both_obey.ensures.same c.parent_allows.ensures.same).trees_stay
+    ∙ sym (ap (left (trees c.args.self.now)) (strike_done x))

@@ -1,37 +1,24 @@
-use Rattle.std.proofs.Common.{refl, ap}
-use Rattle.area.specs.declared.regions.Region.TheVariants.{Tree}
+use Rattle.std.proofs.Common.{sym, ap, ◌∙◌}
+use Rattle.area.specs.declared.regions.Region.TheVariants.{Tree, New}
+use Rattle.ledger.specs.Answers.{left}
 use Rattle.ledger.specs.Ledger.{file}
-use Rattle.service.specs.Service.{before}
-use Rattle.service.proofs.Once.{kept_trees, kept_itself, open_keeps}
-use Rattle.service.proofs.Methods.{drawn_kept, undrawn_kept}
-use Rattle.service.proofs.types.Round.adopt.Goals.{in-Ok, in-Err}
+use Rattle.service.specs.Keeping.{Kept, trees_in}
+use Rattle.service.specs.Service.{before, outcome_in}
+use Rattle.service.proofs.Once.{kept_trees, kept_itself}
+use Rattle.service.proofs.Files.{came_kept}
+use Rattle.service.proofs.Outcomes.{taken_over}
+use Rattle.service.proofs.types.Round.adopt.Goals.{After-adopt-3}
 use Rattle.service.proofs.types.Round.adopt.Goals as goal
 
-pub take_over-requires : goal.take_over-requires
-take_over-requires c =
-    let r = c.args.self in
-    (_, drawn_kept r.area r.drawn (before r) r.came _ c.in-Ok.is)
+adopted : (c : After-adopt-3) → Kept c.adopt-3.new.area Tree c.in-Ok.new (trees_in c.args.self.file.area New c.in-Ok.new)
+adopted c =
+    taken_over c.adopt.ensures.only c.adopt-2.ensures.only c.adopt-3.ensures.only c.adopt.ensures.held c.adopt-2.ensures.held c.adopt-3.ensures.held
+    (came_kept c.args.self.came c.in-Ok.is)
 
-pub invariant_of-result : goal.invariant_of-result
-invariant_of-result c =
-    let r = c.args.self in
-    elim c.match-drawn.branch [
-      | in-Ok w ↦ rw w.result-is (record { ok = ∣ kept_itself (w.take_over.ensures.kept _ (drawn_kept r.area r.drawn (before r) r.came _ w.in-Ok.is)) ∣₁ })
-      | in-Err w ↦ rw w.result-is (record { ok = r.ok })
-    ]
+pub invariant_of-file : goal.invariant_of-file
+invariant_of-file c = record { ok = ∣ kept_itself (adopted (goal.at.invariant_of-file c).After-adopt-3) ∣₁ }
 
-pub returns : goal.returns
-returns c =
+pub returns-clause-state : goal.returns-clause-state
+returns-clause-state c =
     let r = c.args.self in
-    elim c.match-drawn.branch [
-      | in-Ok w ↦
-          record {
-            state = rw w.result-is (ap file (kept_trees (w.take_over.ensures.kept _ (drawn_kept r.area r.drawn (before r) r.came _ w.in-Ok.is))));
-            limit = rw w.result-is w.take_over.ensures.only.same_limit;
-          }
-      | in-Err w ↦
-          record {
-            state = rw w.result-is (ap file (kept_trees (undrawn_kept r.area r.drawn (before r) (open_keeps r.area Tree r.sizes r.ok) _ w.in-Err.is)));
-            limit = rw w.result-is refl;
-          }
-    ]
+    ap file (kept_trees (adopted (goal.at.returns-clause-state c).After-adopt-3) ∙ ap (λ d. left (before r) (outcome_in r.file.area d)) (sym c.in-Ok.is))

@@ -1,5 +1,5 @@
 -- The test of a node and all below it, child by child.
-use Rattle.std.proofs.Common.{◌≡◌, ℕ, ◌+◌, ◌-◌, ◌<◌, ◌≤◌, true, false, cond, T, List, [], ◌∷◌, ◌++◌, length, take, set, Some, None, Option, MatchOption, Bor, sym, refl, ap, ◌∙◌, subst, append_assoc, append-nil, arith, length-append, length-take}
+use Rattle.std.proofs.Common.{◌≡◌, ℕ, ◌+◌, ◌-◌, ◌<◌, ◌≤◌, Bool, true, false, cond, T, List, [], ◌∷◌, ◌++◌, length, take, set, Some, None, Option, MatchOption, Bor, sym, refl, ap, ◌∙◌, subst, append_assoc, append-nil, arith, length-append, length-take, length-set}
 use Rattle.std.proofs.lemmas.List.{take_more_set, take_all}
 use Rattle.std.proofs.lemmas.Option.{MatchOption-at_some}
 use Rattle.std.specs.List.{IsFirstAndRest}
@@ -30,7 +30,7 @@ some missing p = absurd p
 some mark p = omega arith
 some (node f) p = omega arith
 
-or_is : (a b : Option ℕ) → option_or a b ≡ or_else a b
+pub or_is : (a b : Option ℕ) → option_or a b ≡ or_else a b
 or_is None b = refl
 or_is (Some n) b = refl
 
@@ -59,16 +59,36 @@ pub record Opened (m : Meaning) (c : Option ℕ) (e : Entry) (es : List Entry) (
   pub number : nodes t ≡ 1 + nodes_all (below t)
   pub fault : (n : ℕ) → fault_from m c t n ≡ cond (allowed m c (names (below t))) (fault_among m c (below t) (n + 1)) (Some n)
 
-pub opened : (m : Meaning) (c : Option ℕ) {e : Entry} {es more : List Entry} {t : Tree} {code : ℕ} → Heads e es t more → code ≡ 1 → (e.kind ≡ code → ⊥) → Opened m c e es t more
-opened m c {e} {es} {more} {t} {code} h q n = go t h.is_present h.well_formed h.told
+-- A mark is told by its kind, and by that alone where there are no children.
+no_mark : {m : Meaning} {c : Option ℕ} {e : Entry} {es more : List Entry} {t : Tree} → Heads e es t more → (e.kind ≡ 1 → e.children ≡ 0 → ⊥) → Opened m c e es t more
+no_mark {m} {c} {e} {es} {more} {t} h n = go t h.is_present h.well_formed h.told
   where
-    k : e.kind ≡ 1 → ⊥
-    k z = n (z ∙ sym q)
-
     go : (t : Tree) → T (present t) → WellFormed t → e ∷ es ≡ tell t e.name more → Opened m c e es t more
     go missing p s q = absurd p
-    go mark p s q = let z : e.kind ≡ 1 = cc in absurd (k z)
+    go mark p s q = let k : e.kind ≡ 1 = cc in let z : e.children ≡ 0 = cc in absurd (n k z)
     go (node f) p s q = record { told = cc; many = cc; formed = s.1; number = refl; fault = λ n. refl }
+
+pub opened : (m : Meaning) (c : Option ℕ) {e : Entry} {es more : List Entry} {t : Tree} → Heads e es t more → (e.children ≡ 0 → ⊥) → Opened m c e es t more
+opened m c h n = no_mark h (λ k z. n z)
+
+-- One without children.
+pub bare : (m : Meaning) (c : Option ℕ) {e : Entry} {es more : List Entry} {t : Tree} {code : ℕ} {own : Option ℕ} → Heads e es t more → e.children ≡ 0 → code ≡ 1 → (e.kind ≡ code → ⊥)
+    → (n : ℕ) → own ≡ cond (allowed m c []) None (Some n) → own ≡ fault_from m c t n
+bare m c {t = t} h z q k n o = let x = no_mark {m = m} {c = c} h (λ j l. k (j ∙ sym q)) in o ∙ go (below t) (omega (arith, x.many)) ∙ sym (x.fault n)
+  where
+    go : (f : Forest) → length (names f) ≡ 0 → cond (allowed m c []) None (Some n) ≡ cond (allowed m c (names f)) (fault_among m c f (n + 1)) (Some n)
+    go empty l = refl
+    go (child j u h) l = absurd (omega arith)
+
+-- Behind it are the others.
+pub alone : {e : Entry} {es more : List Entry} {t : Tree} → Heads e es t more → e.children ≡ 0 → es ≡ more
+alone {e} {es} {more} {t} h z = go t h.is_present h.told
+  where
+    go : (t : Tree) → T (present t) → e ∷ es ≡ tell t e.name more → es ≡ more
+    go missing p q = absurd p
+    go mark p q = cc
+    go (node empty) p q = cc
+    go (node (child k u f)) p q = let n : e.children ≡ 1 + length (names f) = cc in absurd (omega arith)
 
 -- The children of f are read, and more records stand behind them: of so many the names are put together, and left are the others.
 pub record Going (m : Meaning) (c : Option ℕ) (count : ℕ) (f : Forest) (more : List Entry) (at i : ℕ) (own : List ℕ) (fault : Option ℕ) (rest : List (List ℕ)) : Type 0 where
@@ -99,7 +119,7 @@ pub record Ahead (m : Meaning) (c : Option ℕ) (count : ℕ) (f : Forest) (more
   pub small : nodes tree + length (names f) ≤ nodes_all f + 1
   pub heads : (r : List ℕ) (under : List (List ℕ)) (e : Entry) → rest ≡ r ∷ under → e ≡ entry_of r → Heads e (entries_of under) tree behind
   pub next : (r : List ℕ) (under : List (List ℕ)) (e : Entry) → rest ≡ r ∷ under → e ≡ entry_of r → i < length own → length rest ≤ count
-      → {d found o : Option ℕ} → d ≡ class_under m c e.name → found ≡ fault_from m d tree (count - 1 - length under) → o ≡ option_or fault found
+      → {d o : Option ℕ} → d ≡ class_under m c e.name → o ≡ or_else fault (fault_from m d tree (count - 1 - length under))
       → (more_rest : List (List ℕ)) → entries_of more_rest ≡ behind → Going m c count f more at (i + 1) (set own i e.name) o more_rest
   pub fewer : (more_rest : List (List ℕ)) → entries_of more_rest ≡ behind → length more_rest < length rest
 
@@ -123,7 +143,7 @@ ahead {m} {c} {count} {f} {more} {at} {i} {own} {fault} {rest} g l = go g.left g
           some = omega arith;
           small = omega (arith, ap length n, length-append (take i own) (k ∷ names h), length-take i own, names_few h s.2, r);
           heads = λ x under e p q. record { is_present = s.0; well_formed = s.1; told = subst (λ j. e ∷ entries_of under ≡ tell u j (tells h more)) (sym (name x under e p q)) (head x under e p q) };
-          next = λ x under e p q j w {d} {found} {o} v z ois more_rest y.
+          next = λ x under e p q j w {d} {o} v z more_rest y.
               let here : count - 1 - length under ≡ count - length rest = omega (arith, ap length p) in
               let there : count - length rest + nodes u ≡ count - length more_rest = omega (arith, long, length_entries_of more_rest, ap length y) in
               record {
@@ -133,8 +153,8 @@ ahead {m} {c} {count} {f} {more} {at} {i} {own} {fault} {rest} g l = go g.left g
                 formed = s.2;
                 room = omega arith;
                 answers =
-                    ap (λ o. or_else o (fault_among m c h (count - length more_rest))) (ois ∙ or_is fault found)
-                    ∙ ap (λ o. or_else (or_else fault o) (fault_among m c h (count - length more_rest))) (z ∙ ap (λ d. fault_from m d u (count - 1 - length under)) (v ∙ ap (class_under m c) (name x under e p q)) ∙ ap (fault_from m (class_under m c k) u) here)
+                    ap (λ o. or_else o (fault_among m c h (count - length more_rest))) z
+                    ∙ ap (λ o. or_else (or_else fault o) (fault_among m c h (count - length more_rest))) (ap (λ d. fault_from m d u (count - 1 - length under)) (v ∙ ap (class_under m c) (name x under e p q)) ∙ ap (fault_from m (class_under m c k) u) here)
                     ∙ or_assoc fault (fault_from m (class_under m c k) u (count - length rest)) (fault_among m c h (count - length more_rest))
                     ∙ ap (λ d. or_else fault (or_else (fault_from m (class_under m c k) u (count - length rest)) (fault_among m c h d))) (sym there)
                     ∙ a;
@@ -146,6 +166,77 @@ ahead {m} {c} {count} {f} {more} {at} {i} {own} {fault} {rest} g l = go g.left g
         name_of missing k after e es p q = absurd p
         name_of mark k after e es p q = cc
         name_of (node f) k after e es p q = cc
+
+-- The record of the last child is read, and it and all below it are still to be tested.
+pub record Last (m : Meaning) (c : Option ℕ) (count : ℕ) (f : Forest) (more : List Entry) (at i : ℕ) (own : List ℕ) (fault : Option ℕ) (rest : List (List ℕ)) (under : Option ℕ) (e : Entry) : Type 0 where
+  pub tree : Tree
+  pub behind : List Entry
+  pub some : 1 ≤ i
+  pub all : length own ≤ i
+  pub small : nodes tree + length (names f) ≤ nodes_all f + 1
+  pub heads : Heads e (entries_of rest) tree behind
+  pub next : {o : Option ℕ} → o ≡ or_else fault (fault_from m under tree (count - 1 - length rest)) → (more_rest : List (List ℕ)) → entries_of more_rest ≡ behind → Going m c count f more at i own o more_rest
+
+-- What is known after so many children: the last one may be set aside.
+abbrev pub Stage : Meaning → Option ℕ → ℕ → Forest → List Entry → ℕ → ℕ → List ℕ → Option ℕ → List (List ℕ) → Option (Option ℕ × Entry) → Type 0
+Stage m c count f more at i own fault rest None = Going m c count f more at i own fault rest
+Stage m c count f more at i own fault rest (Some p) = Last m c count f more at i own fault rest p.0 p.1
+
+-- While there is a child to come, none is set aside.
+pub going_on : (m : Meaning) (c : Option ℕ) (count : ℕ) (f : Forest) (more : List Entry) (at i : ℕ) (own : List ℕ) (fault : Option ℕ) (rest : List (List ℕ)) (last : Option (Option ℕ × Entry))
+    → Stage m c count f more at i own fault rest last → i < length own → Going m c count f more at i own fault rest
+going_on m c count f more at i own fault rest None s l = s
+going_on m c count f more at i own fault rest (Some p) s l = absurd (let a = s.all in omega arith)
+
+pub stays_on : (m : Meaning) (c : Option ℕ) (count : ℕ) (f : Forest) (more : List Entry) (at i : ℕ) (own next_own : List ℕ) (fault next_fault : Option ℕ) (rest next_rest : List (List ℕ)) (last : Option (Option ℕ × Entry))
+    → Stage m c count f more at i own fault rest last → i < length own → Going m c count f more at (i + 1) next_own next_fault next_rest → Stage m c count f more at (i + 1) next_own next_fault next_rest last
+stays_on m c count f more at i own next_own fault next_fault rest next_rest None s l g = g
+stays_on m c count f more at i own next_own fault next_fault rest next_rest (Some p) s l g = absurd (let a = s.all in omega arith)
+
+pub set_aside : {m : Meaning} {c : Option ℕ} {count : ℕ} {f : Forest} {more : List Entry} {at i : ℕ} {own : List ℕ} {fault : Option ℕ} {rest : List (List ℕ)}
+    → Ahead m c count f more at i own fault rest → (r : List ℕ) (under : List (List ℕ)) (e : Entry) → rest ≡ r ∷ under → e ≡ entry_of r → i + 1 ≡ length own → length rest ≤ count
+    → {d : Option ℕ} → d ≡ class_under m c e.name → Last m c count f more at (i + 1) (set own i e.name) fault under d e
+set_aside {i = i} {own = own} a r under e p q l n v =
+    record {
+      tree = a.tree;
+      behind = a.behind;
+      some = omega arith;
+      all = omega (arith, length-set own i e.name);
+      small = a.small;
+      heads = a.heads r under e p q;
+      next = λ o more_rest y. a.next r under e p q (omega arith) n v o more_rest y;
+    }
+
+-- A turn of the loop that sets the last child aside.
+pub turn_last : (m : Meaning) (c : Option ℕ) (count : ℕ) (f : Forest) (more : List Entry) (at i : ℕ) (own : List ℕ) (fault : Option ℕ) (rest : List (List ℕ)) (last : Option (Option ℕ × Entry))
+    → Stage m c count f more at i own fault rest last → length own ≡ length (names f) → i + 1 ≡ length own → length rest ≤ count
+    → {r : List ℕ} {under : List (List ℕ)} {e : Entry} {d : Option ℕ} → rest ≡ r ∷ under → e ≡ entry_of r → d ≡ class_under m c e.name
+    → {next_fault : Option ℕ} {next_rest : List (List ℕ)} {next_last : Option (Option ℕ × Entry)} → next_fault ≡ fault → next_rest ≡ under → next_last ≡ Some (d, e)
+    → Stage m c count f more at (i + 1) (set own i e.name) next_fault next_rest next_last
+turn_last m c count f more at i own fault rest last s n l b {r} {under} {e} {d} p q v {next_fault} {next_rest} {next_last} x y z =
+    let a = ahead (going_on m c count f more at i own fault rest last s (omega arith)) (omega arith) in
+    subst (Stage m c count f more at (i + 1) (set own i e.name) next_fault next_rest) (sym z)
+    (subst (λ k. Last m c count f more at (i + 1) (set own i e.name) k next_rest d e) (sym x)
+    (subst (λ k. Last m c count f more at (i + 1) (set own i e.name) fault k d e) (sym y) (set_aside a r under e p q l b v)))
+
+-- A turn that tests a child, which is not the last.
+pub turn_on : (m : Meaning) (c : Option ℕ) (count : ℕ) (f : Forest) (more : List Entry) (at i : ℕ) (own : List ℕ) (fault : Option ℕ) (rest : List (List ℕ)) (last : Option (Option ℕ × Entry))
+    → Stage m c count f more at i own fault rest last → length own ≡ length (names f) → i < length own → length rest ≤ count
+    → {r : List ℕ} {under : List (List ℕ)} {e : Entry} {d : Option ℕ} → rest ≡ r ∷ under → e ≡ entry_of r → d ≡ class_under m c e.name
+    → {o : Option ℕ} {more_rest : List (List ℕ)}
+    → ((t : Tree) (behind : List Entry) → Heads e (entries_of under) t behind → (o ≡ or_else fault (fault_from m d t (count - 1 - length under))) × (entries_of more_rest ≡ behind))
+    → {next_fault : Option ℕ} {next_rest : List (List ℕ)} {next_last : Option (Option ℕ × Entry)} → next_fault ≡ o → next_rest ≡ more_rest → next_last ≡ last
+    → Stage m c count f more at (i + 1) (set own i e.name) next_fault next_rest next_last × (length next_rest < length rest)
+turn_on m c count f more at i own fault rest last s n l b {r} {under} {e} {d} p q v {o} {more_rest} tested {next_fault} {next_rest} {next_last} x y z =
+    let a = ahead (going_on m c count f more at i own fault rest last s l) (omega arith) in
+    let found = tested a.tree a.behind (a.heads r under e p q) in
+    let g = a.next r under e p q l b v found.0 more_rest found.1 in (
+      subst (Stage m c count f more at (i + 1) (set own i e.name) next_fault next_rest) (sym z)
+          (stays_on m c count f more at i own (set own i e.name) fault next_fault rest next_rest last s l
+          (subst (λ k. Going m c count f more at (i + 1) (set own i e.name) k next_rest) (sym x)
+          (subst (λ k. Going m c count f more at (i + 1) (set own i e.name) o k) (sym y) g))),
+      omega (arith, ap length y, a.fewer more_rest found.1),
+    )
 
 -- All children were read.
 pub record Ended (m : Meaning) (c : Option ℕ) (f : Forest) (more : List Entry) (at : ℕ) (own : List ℕ) (fault : Option ℕ) (rest : List (List ℕ)) : Type 0 where
@@ -165,10 +256,27 @@ ended {m} {c} {count} {f} {more} {at} {i} {own} {fault} {rest} g e l = go g.left
     go empty n t a = record { own_is = sym all ∙ sym (append-nil (take i own)) ∙ n; fault_is = sym (or_none fault) ∙ a; more_is = t }
     go (child k u h) n t a = absurd (omega (arith, ap length n, length-append (take i own) (k ∷ names h), ap length all))
 
-module _ {m : Meaning} {c : Option ℕ} {e : Entry} {es more : List Entry} {t : Tree} (o : Opened m c e es t more) {at : ℕ} {own : List ℕ} {fault : Option ℕ} {rest : List (List ℕ)}
-    (x : Ended m c (below t) more at own fault rest) where
-  pub lawful : true ≡ allowed m c own → fault ≡ fault_from m c t at
-  lawful h = x.fault_is ∙ ap (λ b. cond b (fault_among m c (below t) (at + 1)) (Some at)) (h ∙ ap (allowed m c) x.own_is) ∙ sym (o.fault at)
+-- What is found of a node: itself, or what was found below it.
+first_of : (b : Bool) (fault o : Option ℕ) (n : ℕ) → or_else (cond b fault (Some n)) o ≡ cond b (or_else fault o) (Some n)
+first_of true fault o n = refl
+first_of false fault o n = refl
 
-  pub unlawful : false ≡ allowed m c own → Some at ≡ fault_from m c t at
-  unlawful h = ap (λ b. cond b (fault_among m c (below t) (at + 1)) (Some at)) (h ∙ ap (allowed m c) x.own_is) ∙ sym (o.fault at)
+pub answered : {m : Meaning} {c : Option ℕ} {e : Entry} {es more : List Entry} {t : Tree} {at : ℕ} {own : List ℕ} {fault : Option ℕ} {rest : List (List ℕ)}
+    → Opened m c e es t more → Ended m c (below t) more at own fault rest → cond (allowed m c own) fault (Some at) ≡ fault_from m c t at
+answered {m} {c} {t = t} {at = at} {own = own} {fault = fault} o x =
+    ap (λ k. cond (allowed m c k) fault (Some at)) x.own_is ∙ ap (λ k. cond (allowed m c (names (below t))) k (Some at)) x.fault_is ∙ sym (o.fault at)
+
+-- The last child and what is below it are tested at the end.
+pub closed : {m : Meaning} {c : Option ℕ} {e : Entry} {es more : List Entry} {t : Tree} {count at i : ℕ} {own : List ℕ} {fault : Option ℕ} {rest : List (List ℕ)} {under : Option ℕ} {child : Entry} {found here result : Option ℕ} (before : Option ℕ)
+    → Opened m c e es t more → (l : Last m c count (below t) more at i own fault rest under child) → length own ≡ length (names (below t))
+    → here ≡ cond (allowed m c own) fault (Some at) → found ≡ option_or before here → result ≡ or_else found (fault_from m under l.tree (count - 1 - length rest))
+    → (more_rest : List (List ℕ)) → entries_of more_rest ≡ l.behind → (result ≡ or_else before (fault_from m c t at)) × (entries_of more_rest ≡ more)
+closed {m} {c} {count = count} {at = at} {own = own} {fault = fault} {rest = rest} {under = under} {here = here} before o l n h w r more_rest y =
+    let below_last = fault_from m under l.tree (count - 1 - length rest) in
+    let x = ended (l.next {o = or_else fault below_last} refl more_rest y) n l.all in (
+      r
+          ∙ ap (λ k. or_else k below_last) (w ∙ or_is before here)
+          ∙ or_assoc before here below_last
+          ∙ ap (or_else before) (ap (λ k. or_else k below_last) h ∙ first_of (allowed m c own) fault below_last at ∙ answered o x),
+      x.more_is,
+    )

@@ -1,11 +1,11 @@
 // Whether the tree of a record file obeys a rulebook, tested on the bytes.
 #![tactic(auto)]
 
-ghost use Rattle.std.specs.Prelude.{◌≡◌, ◌+◌, ◌-◌, ◌<◌, ◌≤◌, List, length, Some, IfOk};
+ghost use Rattle.std.specs.Prelude.{◌≡◌, ◌+◌, ◌-◌, ◌<◌, ◌≤◌, List, length, cond, Some, IfOk};
 ghost use Rattle.model.specs.Trees.{Tree, nodes};
 ghost use Rattle.model.specs.Meaning.{class_under, class_at, allowed as is_allowed};
 ghost use Rattle.model.specs.Meaning.{Obeys};
-ghost use Rattle.model.specs.Faults.{fault_from, first_fault};
+ghost use Rattle.model.specs.Faults.{or_else, fault_from, first_fault};
 ghost use Rattle.records.specs.declared.Entry.{Entry as TheEntry};
 ghost use Rattle.records.specs.Bytes.{entries_of};
 ghost use Rattle.records.specs.Reading.{says, then, passed, copy_of};
@@ -54,40 +54,91 @@ pub fn allowed<R: Rulebook>(rules: &R, class: Option<u32>, names: &[u32]) -> boo
 }
 
 impl<R: Rulebook> Test<'_, R> {
-    // The number of the first unlawful node of a tree whose first record was read already. What is left of the records then are those behind the
-    // tree. The names of the children are put together at the front of `names`, and those of all below them behind: each record is read once.
+    // The number of the node whose record was read last, if these are left.
+    fn number(&self, rest: &[[u8; 8]]) -> usize
+        requires { length rest.now < self.now.count }
+        ensures { result ≡ self.now.count - 1 - length rest.now }
+    {
+        self.count - 1 - rest.len()
+    }
+
+    // The first unlawful node of a tree, where its root is node number `at`, its children have these names and this was found among them.
+    fn own(
+        &self,
+        class: Option<u32>,
+        names: &[u32],
+        at: usize,
+        below: Option<usize>,
+    ) -> Option<usize>
+        ensures { result ≡ cond (is_allowed (R.meaning self.now.rules.now) class names.now) below (Some at) }
+    {
+        if allowed(self.rules, class, names) {
+            below
+        } else {
+            Some(at)
+        }
+    }
+
+    // The first unlawful node of a tree that is one node, which has this number, unless one was found before.
+    fn leaf(
+        &self,
+        class: Option<u32>,
+        entry: Entry,
+        at: usize,
+        before: Option<usize>,
+    ) -> Option<usize>
+        ensures { (t : Tree) (es more : List TheEntry) → Heads entry es t more → entry.children ≡ 0 → result ≡ or_else before (fault_from (R.meaning self.now.rules.now) class t at) }
+    {
+        if entry.kind == NodeKind::Mark.code() {
+            return before.or(Some(at));
+        }
+        before.or(self.own(class, &[], at, None))
+    }
+
+    // The number of the first unlawful node of a tree whose root has so many children, at least one, and whose first record was read already, unless
+    // one was found before. What is left of the records then are those behind the tree. The names of the children are put together at the front of
+    // `names`, and those of all below them behind: each record is read once. When the last child's record is read, the names are complete, so that
+    // the test ends by going on with that child, and a chain costs no call a level.
     fn node(
         &self,
         rest: &mut &[[u8; 8]],
         class: Option<u32>,
-        entry: Entry,
+        children: u32,
         names: &mut [u32],
+        before: Option<usize>,
     ) -> Option<usize>
-        requires tree { (t : Tree) × (more : List TheEntry) × Heads entry (entries_of rest.old.now) t more × (nodes t ≤ length names.old + 1) }
+        requires tree { (e : TheEntry) × (t : Tree) × (more : List TheEntry) × Heads e (entries_of rest.old.now) t more × (e.children ≡ children) × (nodes t ≤ length names.old + 1) }
+        requires some { 0 < children }
         requires number { length rest.old.now < self.now.count }
-        ensures fault { (t : Tree) (more : List TheEntry) → Heads entry (entries_of rest.old.now) t more → result ≡ fault_from (R.meaning self.now.rules.now) class t (self.now.count - 1 - length rest.old.now) }
-        ensures behind { (t : Tree) (more : List TheEntry) → Heads entry (entries_of rest.old.now) t more → entries_of rest.new.now ≡ more }
+        ensures fault { (e : TheEntry) (t : Tree) (more : List TheEntry) → Heads e (entries_of rest.old.now) t more → e.children ≡ children → result ≡ or_else before (fault_from (R.meaning self.now.rules.now) class t (self.now.count - 1 - length rest.old.now)) }
+        ensures behind { (e : TheEntry) (t : Tree) (more : List TheEntry) → Heads e (entries_of rest.old.now) t more → e.children ≡ children → entries_of rest.new.now ≡ more }
     {
-        let at = self.count - 1 - rest.len();
-        if entry.kind == NodeKind::Mark.code() {
-            return Some(at);
-        }
-        let (own, room) = names.split_at_mut(entry.children as usize);
+        let at = self.number(rest);
+        let (own, room) = names.split_at_mut(children as usize);
         let mut fault = None;
-        for name in own.iter_mut() {
+        let mut last = None;
+        for (i, name) in own.iter_mut().enumerate() {
             let (record, below) = rest.split_first().unwrap();
             *rest = below;
             let child = Entry::from(*record);
             *name = child.name;
             let under = class_under(self.rules, class, child.name);
-            let found = self.node(rest, under, child, room);
-            fault = fault.or(found);
+            if i + 1 == children as usize {
+                last = Some((under, child));
+            } else if child.children == 0 {
+                fault = self.leaf(under, child, self.number(rest), fault);
+            } else {
+                fault = self.node(rest, under, child.children, room, fault);
+            }
         }
-        if allowed(self.rules, class, own) {
-            fault
-        } else {
-            Some(at)
+        let found = before.or(self.own(class, own, at, fault));
+        let Some((under, child)) = last else {
+            return found;
+        };
+        if child.children == 0 {
+            return self.leaf(under, child, self.number(rest), found);
         }
+        self.node(rest, under, child.children, room, found)
     }
 }
 
@@ -97,13 +148,17 @@ pub fn first_unlawful<R: Rulebook>(rules: &R, class: Option<u32>, view: View) ->
     ensures { result ≡ first_fault (R.meaning rules.now) class (tree_of view.entry) }
 {
     let (record, mut rest) = view.records.split_first()?;
-    // fixed memory: there is no heap for the names
-    let mut names = [0u32; MOST_NODES];
     let test = Test {
         rules,
         count: view.count(),
     };
-    test.node(&mut rest, class, Entry::from(*record), &mut names)
+    let root = Entry::from(*record);
+    if root.children == 0 {
+        return test.leaf(class, root, 0, None);
+    }
+    // fixed memory: there is no heap for the names
+    let mut names = [0u32; MOST_NODES];
+    test.node(&mut rest, class, root.children, &mut names, None)
 }
 
 // Holds the tree of a view to the rulebook.

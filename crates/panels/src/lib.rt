@@ -54,13 +54,35 @@ impl Panel {
 #[cfg(test)]
 mod tests {
     use super::*;
+    use std::fs;
     use std::test::Fail;
 
+    // One test, since tests share the folder that they run in: of files that are there the first bytes are read.
     #[test]
     fn absent_files_are_empty(rt: HostRuntime) -> Result<(), Fail> {
         let panel = Panel::read(&rt)?;
         assert!(rt; panel.archive.is_empty());
         assert!(rt; panel.field.is_empty());
+        assert!(rt; panel.bench.is_empty());
+
+        let mut long = [7u8; 5000];
+        long[0] = 1;
+        long[4095] = 2;
+        long[4096] = 3;
+        fs::write(&rt, "archive.rec", long.as_slice())?;
+        fs::write(&rt, "field.rec", b"short".as_slice())?;
+        let panel = Panel::read(&rt);
+        // They are removed even where the reading failed.
+        fs::remove_file(&rt, "archive.rec")?;
+        fs::remove_file(&rt, "field.rec")?;
+        let panel = panel?;
+        assert_eq!(rt; panel.archive.len(), 4096);
+        assert_eq!(rt; panel.archive.first(), Some(&1));
+        assert_eq!(rt; panel.archive.last(), Some(&2));
+        assert!(rt; panel.archive.as_slice() == &long[..4096]);
+        assert_eq!(rt; panel.field.len(), 5);
+        assert_eq!(rt; panel.field.first(), Some(&b's'));
+        assert_eq!(rt; panel.field.last(), Some(&b't'));
         assert!(rt; panel.bench.is_empty());
         Ok(())
     }

@@ -1,5 +1,5 @@
 -- Siblings, read one after the other.
-use Rattle.std.proofs.Common.{◌≡◌, ℕ, zero, suc, ◌-◌, ◌*◌, ◌<◌, ◌≤◌, Bool, true, false, cond, List, [], ◌∷◌, length, Ok, Err, Result, MatchResult, IsErrAnd, sym, refl, ap, ◌∙◌, subst, arith}
+use Rattle.std.proofs.Common.{◌≡◌, ℕ, zero, suc, ◌-◌, ◌*◌, ◌<◌, ◌≤◌, Bool, true, false, cond, List, [], ◌∷◌, length, Ok, Err, Result, MatchResult, sym, refl, ap, ◌∙◌, subst, arith}
 use Rattle.model.specs.Trees.{Forest, empty, child}
 use Rattle.refusals.specs.declared.Refusal.{Refusal}
 use Rattle.refusals.specs.declared.Reason.{Reason}
@@ -26,19 +26,6 @@ was_err V (Err d) e h = let i : e ≡ d = cc in ap Err (sym i)
 pub was_ok : {A V : Type 0} (x : Result A Refusal) (R : A → Type 0) (v : V) → MatchResult x R (λ d. ◌≡◌ {A = Result V Refusal} (Ok v) (Err d)) → (a : A) × (x ≡ Ok a) × R a
 was_ok (Ok a) R v h = (a, refl, h)
 was_ok (Err d) R v h = let z : ◌≡◌ {A = ℕ} 0 1 = cc in absurd (omega arith)
-
--- A reading that stopped told why, and one that did not, what is left.
-pub stopped : {A V D : Type 0} (x : Result A Refusal) (d : D) (v : V) (P : A → Type 0) (Q : Refusal → Type 0)
-    → MatchResult x (λ a. (◌≡◌ {A = Result V D} (Err d) (Ok v)) × P a) Q → (e : Refusal) × (x ≡ Err e) × Q e
-stopped (Ok a) d v P Q h = let h0 = h.0 in let z : ◌≡◌ {A = ℕ} 0 1 = cc in absurd (omega arith)
-stopped (Err e) d v P Q h = (e, refl, h)
-
-pub went_on : {A V : Type 0} (x : Result A Refusal) (v : V) (P : A → Type 0) → MatchResult x (λ a. (v ≡ v) × P a) (λ e. ⊥) → (a : A) × (x ≡ Ok a) × P a
-went_on (Ok a) v P h = (a, refl, h.1)
-went_on (Err e) v P h = absurd h
-
-pub reason_is : {V D : Type 0} {r : Result V D} {x d : D} (R : D → Type 0) → r ≡ Err x → x ≡ d → R d → IsErrAnd r R
-reason_is R p q h = subst (λ y. IsErrAnd y R) (sym (p ∙ ap Err q)) h
 
 -- The place of a refusal, by the bytes and by the records that are left.
 pub place : (w : Wanted) (r : Reason) (end : ℕ) (rs : List (List ℕ)) → no w r (end - 8 * length rs) ≡ no w r (here end (entries_of rs))
@@ -149,6 +136,6 @@ begun k = fewer (omega arith) (record { is = refl })
 pub done : {w : Wanted} {end room : ℕ} {answer : Result (List Entry) Refusal} {k : ℕ} {el : Elder} {es : List Entry} → k ≡ 0 → Goes w end room answer k el es → answer ≡ Ok es
 done z g = (fewer z g).is
 
--- No children are read from the records that are there.
-pub no_children : (w : Wanted) (end room k : ℕ) (es : List Entry) → k ≤ 0 → rests (read w end room k First es) ≡ Ok es
-no_children w end room k es l = let z : k ≡ 0 = omega arith in ap (λ j. rests (read w end room j First es)) z
+-- No siblings are read from the records that are there.
+pub no_more : (w : Wanted) (end room k : ℕ) (el : Elder) (es : List Entry) → k ≤ 0 → rests (read w end room k el es) ≡ Ok es
+no_more w end room k el es l = let z : k ≡ 0 = omega arith in ap (λ j. rests (read w end room j el es)) z

@@ -170,13 +170,13 @@ refused bs w {r} {e} q h =
       faithful = subst (λ x. IfOk x (λ v. Fits w (tree_of v) × EndsWith bs (tree_of v) w.kind)) (sym q) tt;
     }
 
-pub accepted : {bs : List ℕ} {w : Wanted} (v : View) (f : Found bs w v.records.now) → Reads_as bs w (Ok v)
-accepted {bs} {w} v f =
+pub accepted : {bs : List ℕ} {w : Wanted} (v : View) → v.start ≡ length bs - 8 - 8 * length v.records.now → Found bs w v.records.now → Reads_as bs w (Ok v)
+accepted {bs} {w} v s f =
     let i : tree_of v ≡ f.tree = tree_is f.tells in
     let a : Ok (tree_of v) ≡ says bs w = ap Ok i ∙ sym f.is in
     record {
       answer = a;
-      place = f.lies ∙ ap (λ t. last_records bs (nodes t)) (sym i);
+      place = (omega (arith, s, count_is v), f.lies ∙ ap (λ t. last_records bs (nodes t)) (sym i));
       complete = λ t f n. a ∙ written_is_read bs w t f n;
       faithful = (subst (Fits w) (sym i) f.fits, subst (λ t. EndsWith bs t w.kind) (sym i) f.ends);
     }

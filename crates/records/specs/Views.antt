@@ -18,6 +18,6 @@ trees_of (Err e) = Err e
 abbrev pub last_records : List ℕ → ℕ → List (List ℕ)
 last_records bs n = first_chunks 8 n (drop (length bs - (8 * n + 8)) bs)
 
--- The records of a view are those before the trailer of these bytes, one for each node.
+-- The records of a view are those before the trailer of these bytes, one for each node, and begin where the view says.
 abbrev pub LiesIn : List ℕ → View → Type 0
-LiesIn bs v = v.records.now ≡ last_records bs (nodes (tree_of v))
+LiesIn bs v = (v.start ≡ length bs - (8 * nodes (tree_of v) + 8)) × (v.records.now ≡ last_records bs (nodes (tree_of v)))

@@ -1,8 +1,9 @@
 #![tactic(auto)]
 
-ghost use Rattle.std.specs.Prelude.{◌≡◌, ◌-◌, ◌*◌, ◌≤◌, length, Ok, Err, MatchResult, IsOkAnd, IsErrAnd, IfOk};
+ghost use Rattle.std.specs.Prelude.{◌≡◌, ◌-◌, ◌*◌, ◌≤◌, length, Ok, Err, MatchResult, IsOkAnd, IfOk, IfErr};
 ghost use Rattle.model.specs.Trees.{Tree as TheTree, nodes};
 ghost use Rattle.records.specs.Bytes.{entry_of, entries_of, node_code, tree_code};
+ghost use Rattle.records.specs.declared.Elder.TheVariants.{First};
 ghost use Rattle.records.specs.Reading.{named, right, read as reads, rests, whole, passed, sealed, tail_of, located, says, no, copy_of, an_archive};
 ghost use Rattle.records.specs.Views.{tree_of, last_records, trees_of, LiesIn};
 ghost use Rattle.records.specs.Worked.{WorkedFile};
@@ -149,9 +150,11 @@ fn is_right(kind: TreeKind, elder: Elder, e: Entry) -> bool
     ensures { result ≡ right kind elder e }
 {
     let node = e.kind == NodeKind::Tree.code();
-    let mark = e.kind == NodeKind::Mark.code();
-    let bare_mark = mark && kind == TreeKind::Archive && e.children == 0;
-    e.last == 0 && (node || bare_mark) && elder.allows(e.name)
+    let plain = match kind {
+        TreeKind::Copy => node,
+        TreeKind::Archive => node || e.kind == NodeKind::Mark.code() && e.children == 0,
+    };
+    e.last == 0 && plain && elder.allows(e.name)
 }
 
 impl Reading {
@@ -163,47 +166,88 @@ impl Reading {
         self.wanted.refuse(reason, self.end - 8 * rest.len())
     }
 
-    // Reads so many siblings, each with all below it, where nodes may stand on `room` levels. What is left then are the records behind them, or those
-    // from the one on at which the reading stops.
-    fn siblings(
+    // Reads as many of so many first siblings as have no children, and gives the records from there on, how many siblings are left, and after which.
+    fn leaves<'a>(
         &self,
-        rest: &mut &[[u8; 8]],
+        records: &'a [[u8; 8]],
+        room: usize,
+        count: u32,
+    ) -> Result<(&'a [[u8; 8]], u32, Elder), Refusal>
+        requires { 8 * length records.now ≤ self.now.end }
+        ensures left { IfOk result (λ p. rests (reads self.now.wanted self.now.end room count First (entries_of records.now)) ≡ rests (reads self.now.wanted self.now.end room p.1 p.2 (entries_of p.0.now))) }
+        ensures refused { IfErr result (λ e. rests (reads self.now.wanted self.now.end room count First (entries_of records.now)) ≡ Err e) }
+        ensures shorter { IfOk result (λ p. length p.0.now ≤ length records.now) }
+    {
+        let mut rest = records;
+        let mut left = count;
+        let mut elder = Elder::First;
+        // no iterator: where it stops, the records and the siblings that are left are told
+        while left > 0 {
+            let Some((record, below)) = rest.split_first() else {
+                return Err(self.refuse(Reason::Count, rest));
+            };
+            if room == 0 {
+                return Err(self.refuse(Reason::Depth, rest));
+            }
+            let entry = Entry::from(*record);
+            if entry.children > 0 {
+                return Ok((rest, left, elder));
+            }
+            if !is_right(self.wanted.kind, elder, entry) {
+                return Err(self.refuse(Reason::Record, rest));
+            }
+            rest = below;
+            left -= 1;
+            elder = Elder::After(entry.name);
+        }
+        Ok((rest, left, elder))
+    }
+
+    // Reads so many siblings, each with all below it, where nodes may stand on `room` levels, and gives the records behind them.
+    fn siblings<'a>(
+        &self,
+        records: &'a [[u8; 8]],
         room: usize,
         count: u32,
         first: Elder,
-    ) -> Result<(), Reason>
-        ensures answer { MatchResult (rests (reads self.now.wanted self.now.end room count first (entries_of rest.old.now))) (λ es. (result ≡ Ok tt) × (entries_of rest.new.now ≡ es)) (λ e. IsErrAnd result (λ r. e ≡ no self.now.wanted r (self.now.end - 8 * length rest.new.now))) }
-        ensures shorter { length rest.new.now ≤ length rest.old.now }
+    ) -> Result<&'a [[u8; 8]], Refusal>
+        requires { 8 * length records.now ≤ self.now.end }
+        ensures answer { MatchResult (rests (reads self.now.wanted self.now.end room count first (entries_of records.now))) (λ es. IsOkAnd result (λ more. entries_of more.now ≡ es)) (λ e. result ≡ Err e) }
+        ensures shorter { IfOk result (λ more. length more.now ≤ length records.now) }
     {
+        let mut rest = records;
         let mut room = room;
         let mut left = count;
         let mut elder = first;
         while left > 0 {
             let Some((record, below)) = rest.split_first() else {
-                return Err(Reason::Count);
+                return Err(self.refuse(Reason::Count, rest));
             };
             if room == 0 {
-                return Err(Reason::Depth);
+                return Err(self.refuse(Reason::Depth, rest));
             }
             let entry = Entry::from(*record);
             if !is_right(self.wanted.kind, elder, entry) {
-                return Err(Reason::Record);
+                return Err(self.refuse(Reason::Record, rest));
             }
-            *rest = below;
             left -= 1;
             if left == 0 {
                 // no sibling is to come, so the loop goes on with what is below this one: a call for each level of a chain would be slower
+                rest = below;
                 room -= 1;
                 left = entry.children;
                 elder = Elder::First;
             } else {
-                if entry.children > 0 {
-                    self.siblings(rest, room - 1, entry.children, Elder::First)?;
-                }
+                let (behind, more, eldest) = self.leaves(below, room - 1, entry.children)?;
+                rest = if more > 0 {
+                    self.siblings(behind, room - 1, more, eldest)?
+                } else {
+                    behind
+                };
                 elder = Elder::After(entry.name);
             }
         }
-        Ok(())
+        Ok(rest)
     }
 
     // Reads all records as one tree.
@@ -218,10 +262,7 @@ impl Reading {
             };
         }
         let room = (MOST_DEEP + 1).saturating_sub(self.wanted.depth);
-        let mut rest = records;
-        if let Err(reason) = self.siblings(&mut rest, room, 1, Elder::Root) {
-            return Err(self.refuse(reason, rest));
-        }
+        let rest = self.siblings(records, room, 1, Elder::Root)?;
         if !rest.is_empty() {
             return Err(self.refuse(Reason::Count, rest));
         }
@@ -267,7 +308,8 @@ pub fn read(bytes: &[u8], wanted: Wanted) -> Result<View<'_>, Refusal>
     let records = locate(bytes, wanted)?;
     let end = bytes.len() - 8;
     Reading { wanted, end }.whole(records)?;
-    Ok(View { records })
+    let start = end - 8 * records.len();
+    Ok(View { start, records })
 }
 
 impl View<'_> {

@@ -1,4 +1,4 @@
-use Rattle.std.proofs.Common.{Err, ap, ◌∙◌}
+use Rattle.std.proofs.Common.{Err, ap, ◌∙◌, refl}
 use Rattle.std.proofs.lemmas.Result.{err_from_is_err_and}
 use Rattle.records.specs.Reading.{located}
 use Rattle.records.proofs.Siblings.{was_ok, was_err}
@@ -21,6 +21,11 @@ returns-in_err-whole c =
     let p = err_from_is_err_and c.from_residual-in_err-whole.result c.from_residual-in_err-whole.ensures.1 in
     refused c.args.bytes.now c.args.wanted (p.1 ∙ ap Err p.2) (refused_too c.args.bytes.now c.args.wanted r.0 c.in_ok-records.records.now r.1 r.2 _ c.in_err-whole.ensures)
 
+pub overflow_sub-start : goal.overflow_sub-start
+overflow_sub-start c =
+    let r = was_ok (located c.args.bytes.now c.args.wanted) _ c.in_ok-records.records c.in_ok-records.ensures in
+    within c.args.bytes.now c.args.wanted r.0 c.in_ok-records.records.now r.1 r.2
+
 pub invariant_of-result : goal.invariant_of-result
 invariant_of-result c =
     let r = was_ok (located c.args.bytes.now c.args.wanted) _ c.in_ok-records.records c.in_ok-records.ensures in
@@ -31,4 +36,4 @@ pub returns : goal.returns
 returns c =
     let r = was_ok (located c.args.bytes.now c.args.wanted) _ c.in_ok-records.records c.in_ok-records.ensures in
     let f = found c.args.bytes.now c.args.wanted r.0 c.in_ok-records.records.now r.1 r.2 (λ i. (c.type_inv.bytes i).fits) c.in_ok-whole.ensures in
-    accepted (record { records = c.in_ok-records.records; ok = ∣ tells_itself f.tells ∣₁ }) f
+    accepted (record { start = _; records = c.in_ok-records.records; ok = ∣ tells_itself f.tells ∣₁ }) refl f

@@ -62,7 +62,8 @@ impl<R: Rulebook> Test<'_, R> {
         self.count - 1 - rest.len()
     }
 
-    // The first unlawful node of a tree, where its root is node number `at`, its children have these names and this was found among them.
+    // The first unlawful node of a root, which is number `at` and whose children have these names, and of those of its children that were tested, where
+    // this was found among those.
     fn own(
         &self,
         class: Option<u32>,
@@ -98,7 +99,7 @@ impl<R: Rulebook> Test<'_, R> {
     // The number of the first unlawful node of a tree whose root has so many children, at least one, and whose first record was read already, unless
     // one was found before. What is left of the records then are those behind the tree. The names of the children are put together at the front of
     // `names`, and those of all below them behind: each record is read once. When the last child's record is read, the names are complete, so that
-    // the test ends by going on with that child, and a chain costs no call a level.
+    // the test ends by calling itself for that child. All arguments are numbers and slices, so that LLVM makes this a jump.
     fn node(
         &self,
         rest: &mut &[[u8; 8]],
@@ -133,6 +134,7 @@ impl<R: Rulebook> Test<'_, R> {
         }
         let found = before.or(self.own(class, own, at, fault));
         let Some((under, child)) = last else {
+            // never: there is at least one child
             return found;
         };
         if child.children == 0 {

@@ -166,7 +166,8 @@ impl Reading {
         self.wanted.refuse(reason, self.end - 8 * rest.len())
     }
 
-    // Reads as many of so many first siblings as have no children, and gives the records from there on, how many siblings are left, and after which.
+    // Reads the first of so many siblings, as long as they have no children, and gives the records from there on, how many siblings are left, and after
+    // which. It promises that the reading goes on from there to the same answer.
     fn leaves<'a>(
         &self,
         records: &'a [[u8; 8]],
